@@ -1,4 +1,4 @@
--- What two pushes, one after the other, have put behind a text.
+-- What two pushes, one after the other, have appended to a text.
 use Rattle.std.proofs.Common.{◌≡◌, ℕ, List, ◌++◌, ap, ◌∙◌, append_assoc}
 
 pub joined : (a b c x y : List ℕ) → b ≡ a ++ x → c ≡ b ++ y → c ≡ a ++ (x ++ y)

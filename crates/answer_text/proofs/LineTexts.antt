@@ -16,12 +16,12 @@ use Rattle.answer_text.specs.Lines.{Member, always, only_if, if_some, whole, mem
 use Rattle.answer_text.specs.Shown.{array_of, PageShown, page_shown, V1Shown, v1_shown, v1_members, place_data, client_member, line_member, replaced_member, reply_members, journal_members, short_members, found_members, listed_members, last_data}
 use Rattle.answer_text.specs.Pieces as spec
 
--- a member behind the first one, and what stands behind it
+-- a member after the first one, and what stands after it
 abbrev pub member_then : Option Member → List ℕ → List ℕ
 member_then (Some m) rest = 44 ∷ (quoted m.name ++ 58 ∷ (compact_text m.value ++ rest))
 member_then None rest = rest
 
--- the members behind the first one, the end of the object, and what stands behind it
+-- the members after the first one, the end of the object, and what stands after it
 abbrev pub members_then : List ℕ → List (Option Member) → List ℕ
 members_then rest [] = 125 ∷ rest
 members_then rest (m ∷ ms) = member_then m (members_then rest ms)
@@ -46,7 +46,7 @@ line_end name value ms =
 
 -- ---- pieces
 
--- how each reply begins, and what stands behind it
+-- how each reply begins, and what stands after it
 abbrev start_then : Option ℕ → ℕ → List ℕ → List ℕ
 start_then at client rest = 123 ∷ (quoted (codes "At") ++ 58 ∷ (compact_text (place_data at) ++ member_then (client_member client) rest))
 

@@ -1,4 +1,4 @@
--- A text without escapes, with its quotes in the labels beside it.
+-- A text without escapes, whose quotes are part of the labels next to it.
 use Rattle.std.proofs.Common.{◌≡◌, ℕ, List, [], ◌∷◌, ◌++◌, codes, decimal, sym, ap, ◌∙◌, append_assoc}
 use Rattle.json.specs.Print.{escape, quoted}
 use Rattle.bucket_terms.specs.declared.record.Record.{Record}

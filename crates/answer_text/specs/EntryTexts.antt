@@ -12,7 +12,7 @@ use Rattle.answer_text.specs.declared.entry_texts.WantedTexts.TheInside.{Inside}
 use Rattle.answer_text.specs.Lines.{record_at}
 use Rattle.answer_text.specs.Pieces.{content_text}
 
--- what an array has of a key and its record behind another entry
+-- what an array has of a key and its record after another entry
 abbrev pub later_text : List ℕ → Record → List ℕ
 later_text key r = comma_if true ++ content_text key r
 
@@ -24,8 +24,8 @@ IsRight dir records t = string_bytes t.text ≡ later_text (name_at dir t.rank) 
 abbrev pub AreRight : List (List ℕ) → List Record → List (Option EntryText) → Type 0
 AreRight dir records texts = All (λ (o : Option EntryText). IfSome o (IsRight dir records)) texts
 
--- of a session's names and records, which entries' texts are wanted: at the place of each record the rank of the key with
--- which a page shows it
+-- of a session's names and records, which entries' texts are wanted: at the place of each record the rank of the
+-- key with which a page shows it
 pub record WantedView : Type 0 where
   pub dir : List (List ℕ)
   pub records : List Record
@@ -43,7 +43,7 @@ pub record AreWanted (w : WantedView) : Type 0 where
 abbrev pub is_free : List (Option ℕ) → ℕ → Bool
 is_free ranks place = option_map_or is_none (slice_get ranks place) false
 
--- with the text of one more entry: a key's rank comes to the place of its record, where that is free
+-- with the text of one more entry: a key's rank is stored at the place of its record, if that is free
 abbrev pub wanted_with : WantedView → PageEntry → WantedView
 wanted_with w (Key rank val) = record { dir = w.dir; records = w.records; ranks = if is_free w.ranks val then slice_set w.ranks val (Some rank) else w.ranks }
 wanted_with w (Group rank len) = w

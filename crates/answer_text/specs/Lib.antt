@@ -1,3 +1,4 @@
+-- The definitions of the text of a run.
 pub mod Lines
 pub mod Shown
 pub mod MemberOrder

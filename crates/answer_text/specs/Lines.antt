@@ -44,7 +44,7 @@ abbrev pub if_some : List ℕ → Option (List ℕ) → Option Member
 if_some name (Some text) = always name (string text)
 if_some name None = None
 
--- the members that are there, in order
+-- the members that are present, in order
 abbrev pub members_there : List (Option Member) → Members
 members_there [] = no_members
 members_there (Some m ∷ ms) = member m.name m.value (members_there ms)
@@ -63,7 +63,7 @@ line_of d = compact_text d ++ 10 ∷ []
 
 -- ---- the entries of a page
 
--- the record at a place; beyond the last place one that no answer shows
+-- the record at a place; beyond the last place, one that no answer shows
 abbrev pub record_at : List Record → ℕ → Record
 record_at records place = slice_index_or records place (record { size = 0; etag = []; modified = 0 })
 
@@ -138,8 +138,8 @@ abbrev pub verb_text : Change → List ℕ
 verb_text (PutVal val) = codes "PUT"
 verb_text Remove = codes "DELETE"
 
--- one update of the history: its place, who made it for which request line, its key, which is never escaped, and its
--- verb
+-- one update of the history: its place, the client and request line that made it, its key, which is never escaped, and
+-- its verb
 abbrev pub journal_data : List (List ℕ) → ℕ → Update → Data
 journal_data dir place u = object_of (
     always (codes "At") (whole place) ∷ always (codes "Client") (whole u.client) ∷ always (codes "Key") (string (name_at dir u.key))
@@ -150,7 +150,7 @@ abbrev pub journal_lines : List (List ℕ) → ℕ → List Update → List ℕ
 journal_lines dir place [] = []
 journal_lines dir place (u ∷ us) = line_of (journal_data dir place u) ++ journal_lines dir (place + 1) us
 
--- the last line of a text of so many updates
+-- the last line of a text with this number of updates
 abbrev pub counting_line : ℕ → List ℕ
 counting_line count = line_of (object_of (always (codes "Updates") (whole count) ∷ []))
 

@@ -4,7 +4,7 @@ use Rattle.std.specs.Prelude.{◌≡◌, ℕ, true, List, [], ◌∷◌, Option,
 use Rattle.key_names.specs.Ranks.{is_before}
 use Rattle.answer_text.specs.Lines.{Member}
 
--- the names of the members that are there rise strictly in byte order, the first of them above `low`
+-- the names of the members that are present rise strictly in byte order, the first of them above `low`
 abbrev pub RiseAbove : List ℕ → List (Option Member) → Type 0
 RiseAbove low [] = Unit {0}
 RiseAbove low (None ∷ ms) = RiseAbove low ms

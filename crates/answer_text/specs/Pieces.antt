@@ -1,5 +1,5 @@
 -- Helper: the headline does not rest on this file.
--- The pieces of text that a line is put together from.
+-- The pieces of text from which a line is put together.
 use Rattle.std.specs.Prelude.{ℕ, Bool, true, false, List, [], ◌++◌, codes, decimal, Option, Some, None}
 use Rattle.json.specs.Print.{quoted}
 use Rattle.serde_json.specs.Written.{comma_if, items_text}
@@ -64,14 +64,14 @@ content_text key r =
     codes "{\"ETag\":" ++ (quoted r.etag ++ (codes ",\"Key\":" ++ (quoted key
     ++ (codes ",\"LastModified\":" ++ (decimal r.modified ++ (codes ",\"Size\":" ++ (decimal r.size ++ codes "}")))))))
 
--- a key's object from the quote behind the key on
+-- a key's object from the quote after the key on
 unfoldable pub behind_key_text : ℕ → ℕ → List ℕ
 behind_key_text modified size = codes "\",\"LastModified\":" ++ (decimal modified ++ (codes ",\"Size\":" ++ (decimal size ++ codes "}")))
 
 unfoldable pub prefix_text : List ℕ → List ℕ
 prefix_text prefix = codes "{\"Prefix\":" ++ (quoted prefix ++ codes "}")
 
--- what the arrays of keys and of common prefixes have for an entry, behind a comma where something stands there
+-- what the arrays of keys and of common prefixes have for an entry, after a comma where something stands there
 abbrev pub content_element : Bool → List (List ℕ) → List Record → Bool → PageEntry → List ℕ
 content_element later dir records url (Key rank val) = comma_if later ++ content_text (shown url (name_at dir rank)) (record_at records val)
 content_element later dir records url (Group rank len) = []

@@ -1,5 +1,5 @@
 -- Helper: the headline does not rest on this file.
--- The lines of the answer as the code cuts them: what each shows, and lists of its members.
+-- The lines of the answer as the code divides them: what each shows, and lists of its members.
 use Rattle.std.specs.Prelude.{ℕ, Bool, List, [], ◌∷◌, length, codes, if◌then◌else◌, Option, Some, None}
 use Rattle.std.specs.Option.{option_map, option_map_or}
 use Rattle.std.specs.List.{filter_map, flat_map}
@@ -55,7 +55,7 @@ content_members key r =
     ∷ always (codes "Size") (whole r.size)
     ∷ []
 
--- the token that goes on behind a page's point, where it has one
+-- the token that continues after a page's point, where it has one
 abbrev pub point_token : ListQuery → Option TokenPoint → List ℕ
 point_token query point = option_map_or (next_token query) point []
 
@@ -110,7 +110,7 @@ abbrev pub replaced_member : Option Bool → Option Member
 replaced_member (Some was) = always (codes "Replaced") (boolean was)
 replaced_member None = None
 
--- a reply with its status, and a put with one truth value beside it
+-- a reply with its status, and a put with one truth value besides
 abbrev pub short_members : Option ℕ → ℕ → ℕ → Option Bool → ℕ → List (Option Member)
 short_members at client line replaced status =
     at_member at ∷ client_member client ∷ line_member line ∷ replaced_member replaced ∷ status_member status ∷ []

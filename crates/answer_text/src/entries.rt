@@ -106,7 +106,7 @@ fn push_content_of(
     }
 }
 
-// The object of a key with the record at place `val`, behind a comma where something stands before it.
+// The object of a key with the record at place `val`, after a comma where something stands before it.
 #[inline(always)]
 fn push_key(
     out: &mut String,
@@ -132,7 +132,7 @@ fn push_key(
     push_shown(out, url, dir.name(rank).as_str(), &records[val as usize])
 }
 
-// The object of a key, which is shown as the query asks.
+// The object of a key, shown as the query asks.
 fn push_shown(out: &mut String, url: bool, key: &str, stored: &Record) -> Result<(), NoMemory>
     ensures { OnOk result (string_bytes out.new ≡ string_bytes out.old ++ spec.content_text (shown url key.now) stored.now) }
 {
@@ -164,7 +164,7 @@ pub(crate) fn push_content(out: &mut String, key: &str, stored: &Record) -> Resu
     }
 }
 
-// The quotes stand in the labels, and no byte is escaped.
+// The quotes are part of the labels, and no byte is escaped.
 #[inline(always)]
 fn push_plain_content(out: &mut String, key: &str, stored: &Record) -> Result<(), NoMemory>
     requires tag { escape stored.now.etag ≡ stored.now.etag }
@@ -178,7 +178,7 @@ fn push_plain_content(out: &mut String, key: &str, stored: &Record) -> Result<()
     push_behind_key(out, stored.modified, stored.size)
 }
 
-// From the quote behind the key to the end of the object. Apart from what stands before, since the compiler
+// From the quote after the key to the end of the object. Separate from what stands before, since the compiler
 // builds only so many pushes into one function.
 #[inline(never)]
 fn push_behind_key(out: &mut String, modified: u64, size: u64) -> Result<(), NoMemory>

@@ -13,12 +13,12 @@ use key_names::{Directory, NoMemory};
 use std::alloc::Global;
 use std::marker::Model;
 
-// The bytes of an entry's text without its key and its tag, where it has no escapes: the comma, labels, and two numbers
-// of at most 20 digits.
+// The bytes of an entry's text without its key and its tag, where it has no escapes: the comma, the labels, and two
+// numbers of at most 20 digits.
 const LABEL_BYTES: usize = 85;
 
-/// The object of a key and its record, as a page without escapes shows it, behind the comma that stands before it where
-/// it is not the first.
+/// The object of a key and its record, as a page without escapes shows it, after the comma that stands before it unless
+/// it is the first.
 #[derive(Debug, Drop)]
 pub(crate) struct EntryText {
     /// The rank of the key.
@@ -28,8 +28,8 @@ pub(crate) struct EntryText {
     pub(crate) text: String,
 }
 
-/// Which entries' texts are made, of the names of a directory and the records of a session: at the place of each record
-/// the rank of the key with which a page shows it.
+/// Which entries' texts are made, from the names of a directory and the records of a session: at the place of each
+/// record, the rank of the key with which a page shows it.
 #[derive(Drop)]
 pub struct WantedTexts<'a> {
     dir: &'a Directory,
@@ -71,7 +71,7 @@ impl<'a> WantedTexts<'a> {
         self.ranks.len()
     }
 
-    /// Wants the text of a key's entry, where the record has a place and none is wanted there.
+    /// Marks the text of a key's entry as wanted, if the record has a place and none is wanted there.
     pub fn want(&mut self, entry: &PageEntry)
         requires { IsEntryInRange self.old.dir entry.now }
         ensures { self.new ≡ wanted_with self.old entry.now }
@@ -84,7 +84,7 @@ impl<'a> WantedTexts<'a> {
         }
     }
 
-    /// The texts that are wanted at the places from one on up to another one, one for each place; none behind the last
+    /// The texts that are wanted at the places from one up to another, one for each place; none after the last
     /// record.
     pub fn texts(&self, alloc: Global, from: usize, to: usize) -> Result<EntryTexts, NoMemory>
         ensures right { IfOk result (AreRight self.now.dir self.now.records) }
@@ -120,7 +120,7 @@ impl<'a> WantedTexts<'a> {
 }
 
 /// The texts of entries of one session, each at the place of its record. A page that has such an entry shows the text
-/// that is here; the texts of its other entries are made for the page.
+/// stored here; the texts of its other entries are made for the page.
 ///
 /// ```
 /// let mut wanted = WantedTexts::none(alloc, &dir, records)?;
@@ -154,7 +154,7 @@ impl EntryTexts {
         }
     }
 
-    /// Adds texts behind the last place.
+    /// Adds texts after the last place.
     pub fn append(&mut self, behind: EntryTexts) -> Result<(), NoMemory>
         ensures { OnOk result (self.new ≡ self.old ++ behind) }
     {
@@ -163,7 +163,7 @@ impl EntryTexts {
         Ok(())
     }
 
-    /// The text of the entry of this key with the record at place `val`, where it is here.
+    /// The text of the entry of this key with the record at place `val`, if it is here.
     #[inline(always)]
     pub(crate) fn text(&self, rank: u64, val: u64) -> Option<&str>
         ensures { (dir : List (List ℕ)) (records : List StoredRecord) → AreRight dir records self.now

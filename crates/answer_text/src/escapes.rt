@@ -18,7 +18,7 @@ pub(crate) const ESCAPED: AsciiSet = ascii_set!(
         .remove(b'/')
 );
 
-/// The text as an answer shows it. It is copied only where it has a byte that is escaped.
+/// The text as an answer shows it. It is copied only if it has a byte that is escaped.
 pub(crate) fn shown<'a>(alloc: Global, url: bool, text: &'a str) -> Result<CowStr<'a>, NoMemory>
     ensures { IfOk result (λ cow. cow_str_bytes cow ≡ shown url text.now) }
 {

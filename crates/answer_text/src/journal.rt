@@ -27,7 +27,7 @@ pub fn journal_line(
     Ok(Text::from_string(line))
 }
 
-/// Puts the line of `journal_line` behind what the buffer has.
+/// Appends the line of `journal_line` to the buffer.
 pub fn push_journal_line(
     out: &mut String,
     dir: &Directory,
@@ -60,7 +60,7 @@ fn push_update(
     )
 }
 
-// The members from `Key` to the end of the line. Apart from those before, since the compiler builds only so
+// The members from `Key` to the end of the line. Separate from those before, since the compiler builds only so
 // many pushes into one function.
 #[inline(never)]
 fn push_change(out: &mut String, key: &str, line: u32, change: Change) -> Result<(), NoMemory>
@@ -80,7 +80,7 @@ pub fn last_line(alloc: Global, updates: u64) -> Result<Text, NoMemory>
     Ok(Text::from_string(line))
 }
 
-/// Puts the line of `last_line` behind what the buffer has.
+/// Appends the line of `last_line` to the buffer.
 pub fn push_last_line(out: &mut String, updates: u64) -> Result<(), NoMemory>
     ensures { OnOk result (string_bytes out.new ≡ string_bytes out.old ++ line_of (last_data updates)) }
 {

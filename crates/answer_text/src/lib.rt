@@ -1,4 +1,4 @@
-//! The lines that a run is told in: one JSON object for each reply, for each update of the history, and for
+//! The lines in which a run is written: one JSON object for each reply, for each update of the history, and for
 //! the number of updates. Each call's contract is the exact text. A line is put together in a buffer of the caller, who
 //! uses it again for the next line; `serde_json` says what JSON is, and writes the texts that have escapes. The layers
 //! above use the calls, and `session_text` of `specs/Lines.antt`, the text of a whole run.

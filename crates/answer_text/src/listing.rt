@@ -1,4 +1,4 @@
-// The line of a listing, and what it has in common with that of version 1.
+// The line of a listing, and what it shares with that of version 1.
 ghost use Rattle.std.specs.Prelude.{◌≡◌, ◌++◌, length, string_bytes, IfOk, OnOk};
 ghost use Rattle.bucket_terms.specs.Listing.{page_point};
 ghost use Rattle.bucket_terms.specs.PageInRange.{IsInRange};
@@ -131,7 +131,7 @@ pub(crate) fn is_given(text: &Text) -> bool
     !text.as_str().is_empty()
 }
 
-// The token that goes on behind the page; empty where the page is not truncated.
+// The token that continues after the page; empty where the page is not truncated.
 fn next_token(
     alloc: Global,
     dir: &Directory,

@@ -1,5 +1,5 @@
-// The pieces of a line, each put behind what the buffer has. They are built into their callers, where the
-// length of a label is known, and it is stored with no call.
+// The pieces of a line, each appended to the buffer. They are built into their callers, where the
+// length of a label is known, so that it is stored without a call.
 ghost use Rattle.std.specs.Prelude.{◌≡◌, ◌++◌, decimal, string_bytes, OnOk};
 ghost use Rattle.json.specs.Print.{escape, quoted};
 ghost use Rattle.answer_text.specs.Pieces as spec;
@@ -47,7 +47,7 @@ pub(crate) fn push_text(out: &mut String, label: &str, text: &str) -> Result<(),
     }
 }
 
-/// A label and a text, only where the text was given.
+/// A label and a text, only if the text was given.
 pub(crate) fn push_given(
     out: &mut String,
     given: bool,
@@ -90,7 +90,7 @@ fn push_plain(out: &mut String, text: &str) -> Result<(), NoMemory>
 fn push_escaped(out: &mut String, text: &str) -> Result<(), NoMemory>
     ensures { OnOk result (string_bytes out.new ≡ string_bytes out.old ++ quoted text.now) }
 {
-    // Writing to memory fails for want of memory alone.
+    // Writing to memory fails only when out of memory.
     let Ok(quoted) = serde_json::to_string(*out.allocator(), &text) else {
         return Err(NoMemory);
     };

@@ -1,5 +1,5 @@
-// Whether a text needs no escape. Many bytes are looked at in one step; the last step may look at some of the
-// bytes of the one before once more.
+// Whether a text needs no escape. Many bytes are checked in one step; the last step may check some of the
+// bytes of the one before again.
 ghost use Rattle.std.specs.Prelude.{◌≡◌, ◌+◌, ◌≤◌, ◌<◌, length};
 ghost use Rattle.std.specs.Bool.{OnTrue};
 ghost use Rattle.json.specs.Print.{escape};

@@ -16,8 +16,8 @@ use bucket_terms::{Placed, Record, Reply};
 use key_names::{Directory, NoMemory, Text};
 use std::alloc::Global;
 
-/// The line of a reply. Its status is that of the S3 API: 200, 204 for a removal, 400 for a continuation
-/// token that is none, 404 for a missing key, 412 for a put that found its key there, and 503 where no slot was left.
+/// The line of a reply. Its status is that of the S3 API: 200, 204 for a removal, 400 for an invalid continuation
+/// token, 404 for a missing key, 412 for a put that found its key present, and 503 where no slot was left.
 pub fn reply_line(
     alloc: Global,
     dir: &Directory,
@@ -36,7 +36,7 @@ pub fn reply_line(
     Ok(Text::from_string(line))
 }
 
-/// Puts the line of `reply_line` behind what the buffer has.
+/// Appends the line of `reply_line` to the buffer.
 pub fn push_reply_line(
     out: &mut String,
     dir: &Directory,
@@ -54,7 +54,7 @@ pub fn push_reply_line(
     push_known_line(out, dir, records, &texts, placed)
 }
 
-/// The same, where the entries whose texts are known are not made anew.
+/// The same, but the entries whose texts are known are not made anew.
 pub fn push_known_line(
     out: &mut String,
     dir: &Directory,
@@ -142,7 +142,7 @@ fn push_found(out: &mut String, placed: &Placed, stored: &Record) -> Result<(), 
     push_found_end(out, placed.line, stored.size)
 }
 
-// The members from `Line` to the end of the line. Apart from those before, since the compiler builds only so
+// The members from `Line` to the end of the line. Separate from those before, since the compiler builds only so
 // many pushes into one function.
 #[inline(never)]
 fn push_found_end(out: &mut String, line: u32, size: u64) -> Result<(), NoMemory>

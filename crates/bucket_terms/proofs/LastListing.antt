@@ -1,4 +1,4 @@
--- The reply of the last listing, with one answer more.
+-- The reply of the last listing, with one more answer.
 use Rattle.std.proofs.Common.{◌≡◌, Bool, true, false, cond, if◌then◌else◌, List, [], ◌∷◌, ◌++◌, Option, Some, None, inl, inr, refl, ap, ◌∙◌, append-nil}
 use Rattle.std.specs.List.{last_or, filter}
 use Rattle.std.specs.Option.{option_map}

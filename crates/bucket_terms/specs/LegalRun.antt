@@ -117,7 +117,7 @@ HasUsedItsSlots setting line =
     setting.slots ≤ count_by (λ (update : Update). (update.client == setting.client) && nat_lt update.line line) setting.updates
 
 -- the reply is right at its place, where `last` is the reply of the client's last LIST or NEXT. A request is refused,
--- and so has no place, only for a bad token or for want of slots.
+-- and so has no place, only for a bad token or for lack of slots.
 abbrev pub IsRight : Setting → Option Reply → RequestLine → Option ℕ → Reply → Type 0
 IsRight setting last asked at reply = IsRightFor asked.request at reply
   where
@@ -136,8 +136,8 @@ IsRight setting last asked at reply = IsRightFor asked.request at reply
     IsRightFor Next None BadToken = next_of setting.dir last ≡ None
     IsRightFor request at reply = ⊥
 
--- the place is one of the history, and none of the client's earlier places is above it; where the update at the place is
--- that of this line, every place at which the client was answered earlier is below it
+-- the place is one of the history, and none of the client's earlier places is above it; where the update at the place
+-- is that of this line, every earlier place at which the client was answered is below it
 pub record KeepsOrder (setting : Setting) (earlier : List Answered) (line at : ℕ) : Type 0 where
   pub within : at ≤ length setting.updates
   pub not_below : All (λ (answered : Answered). IfSome answered.placed.at (λ place. place ≤ at)) earlier

@@ -1,3 +1,4 @@
+-- What a bucket answers: listings, legal runs, and the passes through which a caller reaches the map.
 pub mod Listing
 pub mod PageEntries
 pub mod PageParts

@@ -8,6 +8,6 @@ use Rattle.bucket_terms.specs.declared.page_entries.ShortKey.{ShortKey}
 abbrev pub key_entry : ShortKey → PageEntry
 key_entry k = Key k.rank k.val
 
--- keys in short, and the other entries behind them
+-- keys in short form, followed by the other entries
 abbrev pub entries_kept : List ShortKey → List PageEntry → List PageEntry
 entries_kept keys rest = map key_entry keys ++ rest

@@ -26,7 +26,7 @@ abbrev pub cut_at : ℕ → List PageEntry → Page
 cut_at max_keys entries =
     record { entries = take max_keys entries; truncated = nat_lt 0 max_keys && nat_lt max_keys (length entries) }
 
--- the point behind the last of some entries
+-- the point after the last of some entries
 abbrev pub last_point : List (List ℕ) → List PageEntry → Option TokenPoint
 last_point dir [] = None
 last_point dir (e ∷ []) = Some (entry_point dir e)

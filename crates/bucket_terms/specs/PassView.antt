@@ -47,7 +47,7 @@ RoseBy n old new = risen n old ≤ new
 abbrev pub RoseByOne : ℕ → ℕ → Type 0
 RoseByOne old new = new ≡ risen 1 old
 
--- the places of the pass's own updates are just those at which updates of its number stand
+-- the places of the pass's own updates are exactly those at which updates of its number stand
 abbrev pub KnowsOwn : PassView → Type 0
 KnowsOwn pass = pass.mine ≡ own_places pass.number pass.seen
 
@@ -93,33 +93,33 @@ pub record Began (old new : PassView) (at : ℕ) : Type 0 where
   pub looks : RoseByOne old.looks new.looks
   pub opened : new.opened ≡ Some at
 
--- the key was there and was removed. A node slot comes back. A pass whose map others change may have looked
--- before, and not have found it.
+-- the key was there and was removed. A node slot comes back. A pass whose map others change may have looked before
+-- without finding it.
 pub record Removed (old new : PassView) (line key : ℕ) (done : Done) : Type 0 where
   pub update : MadeUpdate old new line key Remove done.at
   pub there : map_has key (after new.seen (done.at - 1)) ≡ true
   pub nodes : new.nodes ≡ old.nodes + 1
 
--- a look has told whether the key is there at the place found: no update was made
+-- a look has shown whether the key is there at the place found: no update was made
 pub record LookedFor (old new : PassView) (key : ℕ) (there : Bool) (at : ℕ) : Type 0 where
   pub looked : Looked old new at
   pub looks : RoseBy 1 old.looks new.looks
   pub tells : map_has key (after new.seen at) ≡ there
   pub closed : new.opened ≡ None
 
--- a removal was answered: `was` tells whether the key was there
+-- a removal was answered: `was` says whether the key was there
 abbrev pub AnsweredRemoval : PassView → PassView → ℕ → ℕ → Done → Type 0
 AnsweredRemoval old new line key done =
     MatchBool done.was (Removed old new line key done) (LookedFor old new key false done.at)
 
--- the key was not there and was put. A node slot is used. A pass whose map others change may have looked before, and
--- not have found it absent.
+-- the key was not there and was put. A node slot is used. A pass whose map others change may have looked before
+-- without finding it absent.
 pub record Inserted (old new : PassView) (line key val at : ℕ) : Type 0 where
   pub update : MadeUpdate old new line key (Put val) at
   pub absent : map_has key (after new.seen (at - 1)) ≡ false
   pub nodes : new.nodes + 1 ≡ old.nodes
 
--- a put of a key that is not to be there was answered: it was made where the key was not there, and not where it was
+-- a put of a new key was answered: it was made where the key was not there, and not where it was
 abbrev pub AnsweredPutNew : PassView → PassView → ℕ → ℕ → ℕ → New → Type 0
 AnsweredPutNew old new line key val (Made at) = Inserted old new line key val at
 AnsweredPutNew old new line key val (Kept at) = LookedFor old new key true at

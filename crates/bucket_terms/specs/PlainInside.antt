@@ -20,8 +20,8 @@ view_of p = record {
   opened = p.opened;
 }
 
--- the list is the map after all updates, which are the pass's own; there is memory for the updates that
--- are left; the node slots can't outgrow 64 bits; and an open snapshot is of the whole history
+-- the list is the map after all updates, which are the pass's own; there is memory for the updates that are left; the
+-- node slots cannot exceed 64 bits; and an open snapshot is of the whole history
 pub record IsPlainPass (p : Inside) : Type 0 where
   pub map : p.map.pairs ≡ after p.updates.items (length p.updates.items)
   pub small : length p.map.pairs ≤ length p.updates.items

@@ -30,7 +30,7 @@ pub record KeepsLooks (old new : PassView) : Type 0 where
 abbrev pub LooksOnceIfAbsent : PassView → PassView → Done → Type 0
 LooksOnceIfAbsent old new done = MatchBool done.was (KeepsLooks old new) (RoseByOne old.looks new.looks)
 
--- a put of a key that is not to be there looks once where the key is there, and not where it is not
+-- a put of a new key looks once where the key is there, and not where it is not
 abbrev pub LooksOnceIfKept : PassView → PassView → New → Type 0
 LooksOnceIfKept old new (Made at) = KeepsLooks old new
 LooksOnceIfKept old new (Kept at) = RoseByOne old.looks new.looks

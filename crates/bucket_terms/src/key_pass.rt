@@ -52,15 +52,15 @@ pub trait KeyPass: Homed {
         ensures unchanged { OnErr result (view self.new ≡ view self.old) }
         ensures home { Self.home self.new ≡ Self.home self.old };
 
-    /// Gets entry slots for the next update, where the pass lacks some and can get them: it makes no update, and fixes no
-    /// place. A pass that gets none by it need not have this call: then it does nothing.
+    /// Gets entry slots for the next update, where the pass lacks some and can get them: it makes no update, and
+    /// fixes no place. A pass that gets none this way need not define this call: it then does nothing.
     fn gather<Rt: Wait>(&mut self, _rt: &Rt)
         requires { (view self.old).opened ≡ None }
         ensures gathered { Gathered (view self.old) (view self.new) }
         ensures home { Self.home self.new ≡ Self.home self.old }
     {}
 
-    /// Opens a snapshot and answers its place.
+    /// Opens a snapshot and returns its place.
     fn begin(&mut self) -> u64
         requires { (view self.old).opened ≡ None }
         ensures began { Began (view self.old) (view self.new) result }

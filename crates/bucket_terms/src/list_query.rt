@@ -1,3 +1,4 @@
+// The parameters of a listing of version 2.
 ghost use Rattle.std.specs.Prelude.{◌≡◌, IfOk};
 ghost use Rattle.bucket_terms.specs.Listing.{bound_of};
 
@@ -17,7 +18,7 @@ pub struct ListQuery {
     pub start_after: Text,
     /// The continuation token of the page before.
     pub token: Text,
-    /// How many entries a page has at most: 0 to 1,000.
+    /// The most entries that a page has: 0 to 1,000.
     pub max_keys: u32,
     /// Whether the texts of the answer are percent-encoded (`encoding-type=url`).
     pub url: bool,

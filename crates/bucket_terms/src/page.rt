@@ -3,7 +3,7 @@ use crate::{PageEntries, TokenPoint};
 use key_names::{Directory, NoMemory, Text};
 use std::alloc::Global;
 
-/// One return of a listing. It takes 16 bytes, and a rank has 32 bits in every directory; `PageEntries` keeps most in 8.
+/// One return of a listing, of 16 bytes: a rank has 32 bits in every directory. `PageEntries` keeps most in 8 bytes.
 #[derive(Clone, Copy, Debug, PartialEq, Eq)]
 pub enum PageEntry {
     /// A key, by the rank of its name, with its value.
@@ -19,13 +19,13 @@ impl PageEntry {
     ghost use Rattle.bucket_terms.specs.Listing.{point_text, entry_point};
     ghost use Rattle.bucket_terms.specs.PageInRange.{IsEntryInRange};
 
-    /// Where a listing goes on behind this entry: behind its key, or behind all keys of its common prefix.
+    /// Where a listing goes on after this entry: after its key, or after all keys of its common prefix.
     pub fn point(&self, alloc: Global, dir: &Directory) -> Result<TokenPoint, NoMemory>
         requires { IsEntryInRange dir.now self.now }
         ensures point { IfOk result (λ point. point ≡ entry_point dir.now self.now) }
         ensures fine { IfOk result (λ point. IsFine (point_text point)) }
     {
-        // the call's clauses tell the proof that the names are fine
+        // for the proof: the call's clauses say that the names are fine
         let _names = dir.len();
         match *self {
             PageEntry::Key { rank, .. } => Ok(TokenPoint::Key(
@@ -39,7 +39,7 @@ impl PageEntry {
     }
 }
 
-/// A page of a listing: its entries, at most 1,000, and whether it has some and more are left behind them.
+/// A page of a listing: its entries, at most 1,000, and whether it has some and more are left after them.
 #[derive(Debug, Drop)]
 pub struct Page {
     pub entries: PageEntries,
@@ -52,8 +52,8 @@ impl Page {
     ghost use Rattle.bucket_terms.specs.Listing.{point_text, page_point};
     ghost use Rattle.bucket_terms.specs.PageInRange.{IsInRange};
 
-    /// Where the next page begins: behind the last entry of a truncated page, and nowhere behind another
-    /// page (Amazon S3 API reference, ListObjectsV2: `NextContinuationToken`).
+    /// Where the next page begins: after the last entry of a truncated page, and nowhere after another page (Amazon
+    /// S3 API reference, ListObjectsV2: `NextContinuationToken`).
     pub fn point(&self, alloc: Global, dir: &Directory) -> Result<Option<TokenPoint>, NoMemory>
         requires { IsInRange dir.now self.now }
         ensures point { IfOk result (λ point. point ≡ page_point dir.now self.now) }

@@ -1,4 +1,4 @@
-// The entries of a page, which take half the memory where they are keys with small values.
+// The entries of a page, which take half the memory if they are keys with small values.
 ghost use Rattle.std.specs.Prelude.{◌≡◌, ◌<◌, ◌++◌, ◌∷◌, [], ◌-◌, length, slice_index_or, IfSome, OnOk, OnErr};
 ghost use Rattle.std.specs.List.{slice_get};
 ghost use Rattle.bucket_terms.specs.PageEntries.{key_entry};
@@ -15,12 +15,13 @@ pub(crate) struct ShortKey {
     val: u32,
 }
 
-/// The entries of a page, in order. Contracts see the list of them. A key whose value has 32 bits takes 8 bytes, as long
-/// as each entry before it is such a key; each other entry takes 16.
+/// The entries of a page, in order. Contracts see the list of them. A key whose value has 32 bits takes 8 bytes, as
+/// long as each entry before it is such a key; each other entry takes 16.
 #[derive(Debug, Drop)]
 pub struct PageEntries {
     keys: Vec<ShortKey>,
-    // From the first entry on that is no such key.
+    // The entries from the first one on that is no such key. Places of records have 32 bits in every session, but no
+    // contract of a pass says so: a page has to keep any value.
     rest: Vec<PageEntry>,
 }
 
@@ -45,7 +46,7 @@ impl PageEntries {
         }
     }
 
-    /// The entries of a vector, whose memory is used on.
+    /// The entries of a vector, whose memory is reused.
     pub fn from_vec(entries: Vec<PageEntry>) -> PageEntries
         ensures { result ≡ entries.items }
     {
@@ -101,7 +102,7 @@ impl PageEntries {
         push_with_room(&mut self.rest, entry, most.saturating_sub(self.keys.len()))
     }
 
-    /// Gives back the room that no entry has.
+    /// Gives back the room that no entry uses.
     pub fn shrink_to_fit(&mut self)
         ensures { self.new ≡ self.old }
     {
@@ -110,7 +111,7 @@ impl PageEntries {
     }
 }
 
-// The entry as a key whose value has 32 bits, where it is one.
+// The entry as a key whose value has 32 bits, if it is one.
 fn short(entry: &PageEntry) -> Option<ShortKey>
     ensures { IfSome result (λ key. key_entry key ≡ entry.now) }
 {
@@ -123,8 +124,8 @@ fn short(entry: &PageEntry) -> Option<ShortKey>
     }
 }
 
-// Adds an item. The first one takes room for as many as there will be at most, so that the items are not moved as they
-// become more.
+// Adds an item. The first one takes room for as many as there will be at most, so that the items are not moved as the
+// list grows.
 #[inline(always)]
 fn push_with_room<T: Drop>(items: &mut Vec<T>, item: T, most: usize) -> Result<(), NoMemory>
     ensures ok { OnOk result (items.new.items ≡ items.old.items ++ item ∷ []) }

@@ -1,4 +1,4 @@
-// A pass over one sorted list: the trait's meaning made a program, for one caller.
+// A pass over one sorted list: the trait's meaning as a program, for one caller.
 ghost use Rattle.std.specs.Prelude.{◌≡◌, ◌<◌, ◌≤◌, ◌↔◌, [], None, All, IfOk, OnOk, OnErr, IsErrOf, IsTrue};
 ghost use Rattle.key_map.specs.declared.update.Update.{Update};
 ghost use Rattle.bucket_terms.specs.PassView.{MadePut, AnsweredPutNew, AnsweredRemoval, IsOutOfSlots};
@@ -11,8 +11,8 @@ use std::alloc::Global;
 use std::marker::Model;
 use std::sync::Wait;
 
-/// A map for one caller, kept as one sorted list, that counts slots as a pass of the shared index does.
-/// It is of no index. An update costs a look-up by binary search and a move of the pairs behind it.
+/// A map for one caller, kept as one sorted list, that counts slots as a pass of the shared index does. It belongs to
+/// no index. An update costs a binary search and a move of the pairs after its place.
 #[derive(Drop)]
 pub struct PlainPass {
     number: u32,

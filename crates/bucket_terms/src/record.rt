@@ -1,3 +1,4 @@
+// What is kept of an object.
 use key_names::Text;
 
 /// What the bucket keeps of one object: its size in bytes, its entity tag, and when it was last modified,

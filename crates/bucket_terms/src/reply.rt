@@ -1,9 +1,10 @@
+// The answers to requests.
 use crate::{ListQuery, Page, Shared, V1Query};
 
 /// The answer to a request.
 #[derive(Debug, Drop)]
 pub enum Reply {
-    /// 200. `was` tells whether the key was there before.
+    /// 200. `was` says whether the key was there before.
     Put {
         was: bool,
     },
@@ -39,8 +40,8 @@ pub enum Reply {
 pub struct Placed {
     pub client: u32,
     pub line: u32,
-    /// How many updates stand at the moment of the answer. None exactly for a refused request:
-    /// `BadToken` and `NoSlot`.
+    /// How many updates have been made at the moment of the answer. None exactly for a refused request: `BadToken`
+    /// and `NoSlot`.
     pub at: Option<u64>,
     pub reply: Reply,
 }

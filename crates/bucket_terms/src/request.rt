@@ -1,3 +1,4 @@
+// The requests of a session.
 use crate::{ListQuery, Shared, V1Query};
 use key_names::Text;
 

@@ -1,3 +1,4 @@
+// A value that a request and its reply share.
 ghost use Rattle.std.specs.Prelude.{◌≡◌, IfOk};
 ghost use Rattle.std.specs.Arc.{arc_value};
 
@@ -6,8 +7,9 @@ use std::alloc::Global;
 use std::marker::Model;
 use std::sync::Arc;
 
-/// A value in one allocation that a request and its reply share: the parameters of a listing. What holds it is small.
-/// Contracts see the value.
+/// A value in one allocation that a request and its reply share: the parameters of a listing. A query has four texts
+/// with room for 64 bytes each: copied for each reply, it was in memory twice. The handle is small. Contracts see the
+/// value.
 #[derive(Debug, Drop)]
 pub struct Shared<T> {
     value: Arc<T, Global>,
@@ -20,7 +22,7 @@ impl<T> Model for Shared<T> {
 }
 
 impl<T: Drop> Shared<T> {
-    /// This value. An error is want of memory.
+    /// This value. The only error is out of memory.
     pub fn new(alloc: Global, value: T) -> Result<Shared<T>, NoMemory>
         ensures { IfOk result (λ shared. shared ≡ value) }
     {
@@ -29,7 +31,7 @@ impl<T: Drop> Shared<T> {
         })
     }
 
-    /// The same value, with one owner more. An error is a full count of owners.
+    /// The same value, with one more owner. The only error is a full count of owners.
     pub fn share(&self) -> Result<Shared<T>, NoMemory>
         ensures { IfOk result (λ shared. shared ≡ self.now) }
     {

@@ -1,3 +1,4 @@
+// Continuation tokens, and the listing that they belong to.
 ghost use Rattle.std.specs.Prelude.{◌≡◌, ◌↔◌, true};
 ghost use Rattle.bucket_terms.specs.Listing.{bound_of};
 

@@ -1,7 +1,7 @@
+// The points from which listings go on.
 use key_names::Text;
 
-/// Where a listing goes on: behind a key, or behind all keys of a common prefix. The text has 1 to 1,024
-/// bytes.
+/// Where a listing goes on: after a key, or after all keys of a common prefix. The text has 1 to 1,024 bytes.
 #[derive(Debug, Drop)]
 pub enum TokenPoint {
     /// Keys above this one are left.

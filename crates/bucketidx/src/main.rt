@@ -1,7 +1,7 @@
 //! The program: reads a session on standard input, answers it, and writes the answers, the journal of updates and their
 //! number as lines of JSON; or runs a generated session, and writes a line of numbers; or reads a session and a written
-//! text, and writes whether the text is right. `serve` of `serve_session` is the whole of it, and its clauses say what
-//! a run has read and written; here stand the real input and output, the words of the command line, the runner of the
+//! text, and writes whether the text is right. `serve` of `serve_session` does all of it, and its clauses say what
+//! a run has read and written; here are the real input and output, the arguments of the command line, the runner of the
 //! clients, and the exit status.
 #![tactic(auto)]
 
@@ -36,8 +36,8 @@ fn main(rt: HostRuntime) -> ExitCode {
     }
 }
 
-// Serves, and hands on what the output's buffer still has: with every end but a write fault, nothing is left there. A
-// write fault is one that the output has counted, while serving or by this.
+// Serves, and hands on what is still in the output's buffer: after every end but a write fault, nothing is left there.
+// A write fault is one that the output has counted, while serving or when the buffer was emptied.
 fn serve_to_the_end<Rt: Threads + Wait + Sync + AllocGlobal>(
     rt: &Rt,
     words: &[Text],
@@ -56,7 +56,7 @@ fn serve_to_the_end<Rt: Threads + Wait + Sync + AllocGlobal>(
     written(served, flushed)
 }
 
-// How serving ended whose last bytes the output took, or did not take.
+// How serving ended, given whether the output took the last bytes.
 fn written(status: Status, flushed: Result<(), Failed>) -> Status
     ensures taken { OnOk flushed (result ≡ status) }
     ensures not_taken { OnErr flushed (result ≡ Status.WriteFault) }
@@ -67,18 +67,18 @@ fn written(status: Status, flushed: Result<(), Failed>) -> Status
     }
 }
 
-// Tells how serving ended on standard error, where not all was done, and gives the exit status.
+// Reports on standard error how serving ended, unless all was done, and gives the exit status.
 fn end(rt: &HostRuntime, status: Status) -> ExitCode
     ensures { exit_status result ≡ exit_code status }
 {
     if !status.is_done() {
-        // Nobody is left to be told where this fails.
+        // If this fails, nobody is left to report it to.
         let _ = eprintln!(rt; "bucketidx: {status}");
     }
     ExitCode::from(status.exit_code())
 }
 
-// The words after the program's name. A word that is not UTF-8 makes bad words.
+// The arguments after the program's name. One that is not UTF-8 gives `BadWords`.
 fn words<R: Env + AllocGlobal>(rt: &R) -> Result<Vec<Text>, Status> {
     let args = match env::args(rt) {
         Ok(args) => args,
@@ -91,7 +91,7 @@ fn words<R: Env + AllocGlobal>(rt: &R) -> Result<Vec<Text>, Status> {
     }
 }
 
-// All words but the first, which is the program's name.
+// All arguments but the first, which is the program's name.
 fn behind_the_name(alloc: Global, args: env::Args) -> Result<Vec<Text>, NoMemory>
     ensures { IfOk result (λ words. words.items ≡ map string_bytes (drop 1 (into_iter_items args))) }
 {

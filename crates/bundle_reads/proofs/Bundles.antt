@@ -1,4 +1,5 @@
--- The entries of a link of the tree that a pass reads, from the head on: what each load finds, and where the pass then stands.
+-- The entries of a link of the tree that a pass reads, from the head on: what each load finds, and where the pass then
+-- stands.
 use Rattle.std.proofs.Common.{◌≡◌, ℕ, ◌<◌, ◌≤◌, ◌==◌, ◌&&◌, ◌||◌, List, [], Bool, true, false, ltb, leb, is_none, is_some, arith, refl, ap, ◌∙◌, sym, subst, Option, Some, None, inl, inr}
 use Rattle.std.specs.Prelude.{IfSome}
 use Rattle.std.proofs.lemmas.Bool.Decides.{nat_tests}
@@ -126,7 +127,7 @@ module _ (v : View) (t : ℕ) (reads : InsideAt v t) (known : SectionReader v t)
             watches = record { node = link.node; side = link.side; found = None; place = at.place; watched = watched };
           })
 
-      -- along the bundle the numbers fall
+      -- the numbers fall along the bundle
       number_falls : (s : ℕ) → Happened v.layout (event_at v.layout s LoadTs (EntryWord Number e) 0) v x y → x < 18446744073709551616 → x < number_bound v.reading.above
       number_falls s h low = falls_by v.reading.above refl at.above
         where
@@ -218,7 +219,7 @@ module _ (v : View) (t : ℕ) (reads : InsideAt v t) (known : SectionReader v t)
           left : u.reading.above ≡ Some x
           left = next_above y u link.node link.side (Some x) e n y_place gives
 
-          -- the bound is smaller than it was
+          -- the bound is smaller than before
           pub next_closer : (s' : ℕ) → Happened v.layout (event_at v.layout s' LoadTs (EntryWord Number e) 0) v x y → x < 18446744073709551616
               → number_bound u.reading.above < number_bound v.reading.above
           next_closer s' h fits = subst (λ o. number_bound o < number_bound v.reading.above) (sym left) (number_falls s' h fits)

@@ -1,4 +1,4 @@
--- The tree that a pass with a section number reads: each load speaks of the same one.
+-- The tree that a pass with a section number reads: each load is of the same tree.
 use Rattle.std.proofs.Common.{◌≡◌, ℕ, suc, ◌+◌, ◌<◌, ◌≤◌, List, [], ◌∷◌, cond, eqb, arith, refl, ◌∙◌, sym, subst, Some}
 use Rattle.std.specs.List.{slice_get}
 use Rattle.std.proofs.lemmas.Bool.Decides.{nat_tests}

@@ -5,16 +5,16 @@ use Rattle.index_words.specs.declared.view.reading.Link.{Link}
 use Rattle.index_words.specs.declared.view.reading.Place.{Place}
 use Rattle.plan_laws.specs.Frames.{CountsGrow}
 
--- the view with another place, another number left behind for it, other remembered links, and other counts of entries
--- without a stamp and of changed heads
+-- the view with another place, another number of the entry that it has left, other remembered links, and other counts
+-- of entries without a stamp and of changed heads
 abbrev pub read_on : View → Place → Option ℕ → List Link → ℕ → ℕ → View
 read_on v place above links waits moves = record v {
   reading = record v.reading { place = place; above = above; links = links };
   counts = record v.counts { waits = waits; moves = moves };
 }
 
--- some loads of the tree that the pass reads were made: but for where the pass stands and what it left behind, the links that
--- it remembers, and these two counts, the view is as before. No count has fallen
+-- some loads of the tree that the pass reads were made: the view is unchanged but for where the pass stands, the number
+-- that it has left, the links that it remembers, and these two counts. No count has fallen
 pub record HasRead (v w : View) : Type 0 where
   pub place : Place
   pub above : Option ℕ

@@ -1,4 +1,4 @@
-//! The child of a link of the tree that a pass reads, as the entries of the link's bundle tell it.
+//! The child of a link of the tree that a pass reads, as the entries of the link's bundle give it.
 ghost use Rattle.std.specs.Prelude.{◌≡◌, ◌<◌, IfSome, IfNone};
 ghost use Rattle.table_steps.specs.Loads.{IsTreeLink};
 ghost use Rattle.table_steps.specs.Passes.{IsSamePass, IsAlone};
@@ -9,18 +9,18 @@ ghost use Rattle.bundle_reads.specs.Reads.{HasRead};
 use core_trees::Link;
 use table_steps::TablePass;
 
-/// What comes of a look at an entry of a link's bundle.
+/// The result of a look at an entry of a link's bundle.
 #[derive(Clone, Copy)]
 pub(crate) enum Along {
-    /// It is the one that tells the child, 0 for none.
+    /// This entry gives the child, 0 for none.
     Found(u32),
-    /// The next older one is to be looked at, 0 behind the last one.
+    /// The next older entry, which is to be looked at; 0 after the last one.
     Next(u32),
-    /// It has no number yet.
+    /// This entry has no number yet.
     Pending,
 }
 
-/// One look at an entry of a link's bundle: if its number is at most `at`, it tells the child.
+/// One look at an entry of a link's bundle: if its number is at most `at`, it gives the child.
 fn look_along(pass: &mut TablePass<'_>, at: u64, link: Link, entry: u32) -> Along
     requires reads { InsideAt pass.old.view at }
     requires link { IsTreeLink pass.old.view link.node link.side }
@@ -42,11 +42,11 @@ fn look_along(pass: &mut TablePass<'_>, at: u64, link: Link, entry: u32) -> Alon
     Along::Next(next)
 }
 
-/// The child of a link of the tree that the pass reads at `at`, 0 for none: of the link's entries, from the newest on,
-/// the first one whose number is at most `at` has it. Their numbers fall, so it ends. None where an entry had no number
-/// yet, which another pass has pending; the count of such entries has then risen.
+/// The child of a link of the tree that the pass reads at `at`, 0 for none. Of the link's entries, from the newest on,
+/// the first one whose number is at most `at` has it. The numbers fall, so the loop ends. None if an entry had no
+/// number yet: another pass has it pending, and the count of such entries has then risen.
 ///
-/// It is built into its callers: a search makes it in each level, and a call there stores and loads what the caller
+/// It is built into its callers: a search makes it at each level, and a call there would store and load what the caller
 /// keeps in registers.
 #[inline(always)]
 pub fn child_at(pass: &mut TablePass<'_>, at: u64, link: Link) -> Option<u32>

@@ -1,5 +1,5 @@
 //! Reads along the bundles of the tree that a pass reads at its section number: the child of a link, as the link's
-//! entries tell it, whatever other passes do meanwhile. Snapshots go down the tree by it. The layer above uses
+//! entries give it, whatever other passes do meanwhile. Snapshots go down the tree this way. The layer above uses
 //! `child_at`, inside a section, on a pass that holds no lock.
 #![tactic(auto)]
 

@@ -1,4 +1,4 @@
--- One answer, where the pass has gathered entries before it.
+-- One answer, if the pass has gathered entries before it.
 use Rattle.std.proofs.Common.{◌≡◌, ℕ, ◌+◌, ◌<◌, ◌≤◌, ◌⊎◌, List, Option, Some, inl, inr, length, refl, sym, ap, ◌∙◌, subst, arith}
 use Rattle.std.specs.List.{slice_get, count_by}
 use Rattle.std.proofs.lemmas.Bool.{cases_lt}
@@ -16,7 +16,7 @@ use Rattle.client_run.proofs.OneMore.{places_from_old}
 use Rattle.client_run.proofs.Places.{slice_get-append_front}
 use Rattle.client_run.proofs.TradedAnswers.{extends_on, extends_length, none_own, later_traded, earlier_traded}
 
--- but for its entries the pass is as after a trade of no node slots
+-- apart from its entries the pass is as after a trade of no node slots
 abbrev with_entries_of : PassView → PassView → PassView
 with_entries_of old mid = record mid { entries = old.entries }
 
@@ -35,7 +35,7 @@ traded_none old mid g = record {
 
 module _ (dir : List (List ℕ)) (old mid new : PassView) (last : Option Reply) (x : Answered) (knows : KnowsOwn old) (g : Gathered old mid)
     (step : Answers dir mid new last x) where
-  -- what it lacks after it, it lacked before
+  -- what it lacks afterwards, it lacked before
   short_before : IsShort mid → IsShort old
   short_before (inl none) = inl (omega (arith, none, g.nodes))
   short_before (inr few) = inr (omega (arith, few, g.entries))
@@ -79,7 +79,7 @@ module _ (dir : List (List ℕ)) (old mid new : PassView) (last : Option Reply) 
     ended = step.ended;
   }
 
--- what is answered after it is answered over what the pass knew before it
+-- what is answered afterwards is answered over what the pass knew before it
 pub gathered_answers : (dir : List (List ℕ)) (old mid new : PassView) (last : Option Reply) (line : ℕ) (request : Request) (at : Option ℕ) (reply : Reply)
     → KnowsOwn old → Gathered old mid
     → Answers dir mid new last (answered line request (record { client = mid.number; line = line; at = at; reply = reply }))

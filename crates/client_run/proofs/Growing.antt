@@ -1,4 +1,4 @@
--- One answer more of a client's run.
+-- A client's run with one more answer.
 use Rattle.std.proofs.Common.{◌≡◌, ℕ, suc, ◌+◌, ◌*◌, ◌<◌, ◌≤◌, ◌==◌, ◌&&◌, cond, nat_lt, if◌then◌else◌, All, Any, List, [], ◌∷◌, ◌++◌, None, inl, inr, length, get_or, refl, sym, ap, ◌∙◌, subst, arith, append-nil, append_assoc}
 use Rattle.std.specs.List.{count_by}
 use Rattle.std.proofs.lemmas.Bool.{cases_lt}
@@ -21,7 +21,7 @@ count_step : (by client number line limit rest at : ℕ) (places : List ℕ) →
     → cond ((by == client) && nat_lt line limit) 1 0 + rest ≡ length (if by == number then at ∷ places else places)
 count_step by client number line limit rest at places e later same = grind (arith, nat_tests)
 
--- where each own update is of an earlier line, the earlier ones are the own ones
+-- if each own update is of an earlier line, the earlier ones are the own ones
 pub count_earlier : (number line at : ℕ) (s : Setting) (us : List Update) → s.client ≡ number → All (λ (u : Update). u.client ≡ number → u.line < line) us
     → count_by (is_earlier_of s line) us ≡ length (places_from number at us)
 count_earlier number line at s [] e later = refl
@@ -98,7 +98,7 @@ start dir old knows closed = record {
   upto = λ k d below. absurd (omega arith);
 }
 
--- a line behind those of a run is later than the own updates of then
+-- a line after those of a run is later than the own updates up to then
 pub later_ran : (dir : List (List ℕ)) (lines : List RequestLine) (old now : PassView) (replies : List Placed) (line : ℕ)
     → RanClient dir lines old now replies → IsLaterLine old line → All (λ (l : RequestLine). l.line < line) lines → IsLaterLine now line
 later_ran dir lines old now replies line ran later rising = λ k d below own.

@@ -59,12 +59,12 @@ pub v1_in_range : (dir : List (List ℕ)) (shown : V1Query) (query : ListQuery) 
     → ListedV1As dir shown query point line old new placed → HasPageInRange dir placed.reply
 v1_in_range dir shown query point line old new placed is = subst (λ (p : Placed). HasPageInRange dir p.reply) (sym is.reply_is) is.listed.in_range
 
--- with a text of no token of this listing there is no point, and not none either
+-- a text that is no token of this listing matches neither a point nor the lack of one
 pub no_point : (query : ListQuery) → IsBadToken query → (point : Option TokenPoint) → ¬ (IsPointOf query point)
 no_point query bad None = bad.given
 no_point query bad (Some point) = λ from. bad.no_token (record { point = point; bound = from.0 }) from.1.0 from.1.1
 
--- the listing begins where its one token tells it to
+-- the listing begins where its one token says
 pub start_is : (query : ListQuery) (token : Token) (start : Start) → query.token ≢ [] → HasOneToken query.token → IsTokenOf token query.token
     → IsStartBehind query token start → IsStartOf query start
 start_is query token First given one of behind = absurd behind

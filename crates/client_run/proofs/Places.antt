@@ -20,7 +20,7 @@ slice_get-append_back (x ∷ xs) ys (suc i) l =
     let e : i - length xs ≡ suc i - length (x ∷ xs) = omega arith in
     slice_get-append_back xs ys i (omega arith) ∙ ap (λ (n : ℕ). slice_get ys n) e
 
--- where the pass has the same places, no update of its own was added
+-- if the pass has the same places, no update of its own was added
 pub no_own_added : (number : ℕ) (us more : List Update) → own_places number (us ++ more) ≡ own_places number us
     → (i : ℕ) (u : Update) → length us ≤ i → slice_get (us ++ more) i ≡ Some u → u.client ≡ number → ⊥
 no_own_added number us more same i u from here own =
@@ -39,7 +39,7 @@ added_last us v u i from here =
     let last : slice_get (v ∷ []) 0 ≡ Some u = ap (λ (n : ℕ). slice_get (v ∷ []) n) (sym e) ∙ sym (slice_get-append_back us (v ∷ []) i from) ∙ here in
     (sym (same_Some v u last), omega arith)
 
--- where the pass has one place more, its only update that was added is the last
+-- if the pass has one more place, its only update that was added is the last
 pub own_added_last : (number at : ℕ) (us others : List Update) (v : Update) → v.client ≡ number
     → own_places number ((us ++ others) ++ v ∷ []) ≡ own_places number us ++ at ∷ []
     → (i : ℕ) (u : Update) → length us ≤ i → slice_get ((us ++ others) ++ v ∷ []) i ≡ Some u → u.client ≡ number

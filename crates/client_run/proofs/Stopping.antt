@@ -1,4 +1,4 @@
--- What is left of a pass where a client's run was stopped.
+-- What is left of a pass when a client's run was stopped.
 use Rattle.std.proofs.Common.{ℕ, List, ◌++◌, Option, Result, Ok, Err, ap, ◌∙◌, arith, append_assoc}
 use Rattle.std.specs.Result.{OnErr}
 use Rattle.key_map.specs.declared.update.Update.{Update}
@@ -21,7 +21,7 @@ stopped_later old mid now before stopped = record {
   looks = omega (arith, before.looks, stopped.looks);
 }
 
--- stopped behind an answer
+-- stopped after an answer
 pub stopped_behind : (dir : List (List ℕ)) (old mid now : PassView) (last : Option Reply) (a : Answered) → Continues old mid → Answers dir mid now last a → Stopped old now
 stopped_behind dir old mid now last a before answer =
     stopped_later old mid now before (record { closed = answer.closed; number = answer.continues.number; seen = answer.continues.seen; looks = answer.continues.looks })

@@ -62,7 +62,7 @@ traded_on u v w first second = record {
   closed = second.closed;
 }
 
--- what a pass has newly seen in a trade are updates of others
+-- the updates that a pass has newly seen in a trade are those of others
 module _ (v w : PassView) (trade : Traded v w) (knows : KnowsOwn v) where
   pub none_own : (i : ℕ) (u : Update) → length v.seen ≤ i → slice_get w.seen i ≡ Some u → u.client ≡ v.number → ⊥
   none_own i u from here own = no_own_added v.number v.seen trade.seen.0 places i u from (sym (ap (λ (us : List Update). slice_get us i) trade.seen.1) ∙ here) own
@@ -83,7 +83,7 @@ module _ (v w : PassView) (trade : Traded v w) (knows : KnowsOwn v) where
       ∙ slice_get-get_or trade.seen.0 k d below in
       none_own (length v.seen + k) u (omega arith) there is.by
 
-  -- so a line that is later than its own updates is so still
+  -- so a line that is later than its own updates still is
   pub later_traded : (line : ℕ) → IsLaterLine v line → IsLaterLine w line
   later_traded line later = λ k d below own.
       let mine : (get_or w.seen k d).client ≡ v.number = own ∙ trade.number in
@@ -279,7 +279,7 @@ module _ (dir : List (List ℕ)) (own : ℕ) (old a b new : PassView) (last : Op
     ended = record { refused = λ no_slot. short_capped (still_short (step.ended.refused no_slot)); looked_up = looked_up_now };
   }
 
--- what is said of a pass of which some nodes do not count is said of the pass, where its nodes are not spoken of
+-- what is said of a pass of which some nodes do not count holds of the whole pass, if it does not mention its nodes
 pub continues_all : (own : ℕ) (v w : PassView) → Continues (capped own v) (capped own w) → Continues v w
 continues_all own v w c = record { number = c.number; seen = c.seen; mine = c.mine; looks = c.looks }
 
@@ -315,7 +315,7 @@ answers_alone dir own old new free last x book knows closed other step = record 
   given = λ update. absurd (false≢true (sym other ∙ update));
 }
 
--- an update with a top-up before and a hand-over behind it
+-- an update with a top-up before and a hand-over after it
 pub answers_traded : (dir : List (List ℕ)) (own : ℕ) (old a b new : PassView) (free : ℕ) (last : Option Reply) (x : Answered) (book mid after : Book)
     → KnowsOwn old → HasToppedUp old a book mid → Answers dir a b last x → HasHandedOver own b new free mid after
     → AnswersPooled dir own old new free last x book after

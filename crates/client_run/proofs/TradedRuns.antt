@@ -1,4 +1,4 @@
--- A client's run with trades of node slots, one answer longer.
+-- A client's run with trades of node slots and one more answer.
 use Rattle.std.proofs.Common.{◌≡◌, ℕ, ◌+◌, ◌*◌, ◌≤◌, Bool, true, cond, List, [], ◌∷◌, ◌++◌, Option, inl, inr, length, refl, sym, ap, ◌∙◌, arith}
 use Rattle.std.specs.List.{count_by}
 use Rattle.std.proofs.lemmas.Bool.{cases_Bool, false≢true}
@@ -18,7 +18,7 @@ use Rattle.client_run.proofs.TradedAnswers.{refused_update, spare_later}
 abbrev one_if : Bool → ℕ
 one_if b = cond b 1 0
 
--- what `RanPooled` says beside the run
+-- what `RanPooled` says besides the run
 pub record Trading (own : ℕ) (lines : List RequestLine) (old new : PassView) (free : ℕ) (book after : Book) (replies : List Placed) : Type 0 where
   pub refused : (front : List Answered) (a : Answered) → answered_lines lines replies ≡ front ++ a ∷ [] → a.placed.reply ≡ NoSlot → IsShort new
   pub empties : 4 * updates_in lines ≤ old.entries → count_by is_no_slot replies + book.empties ≤ after.empties

@@ -36,7 +36,7 @@ pub later_at : (dir : List (List ℕ)) (lines : List RequestLine) (i : ℕ) (d :
 later_at dir lines i d old now replies below run later rising =
     later_ran dir (take i lines) old now replies (get_or lines i d).line run.ran (later i d below) (earlier_lines lines i d below rising)
 
--- a call is left for the next line, where it may make an update
+-- a call is left for the next line, if it may make an update
 pub call_at : (dir : List (List ℕ)) (lines : List RequestLine) (i : ℕ) (d : RequestLine) (old now : PassView) (replies : List Placed) → i < length lines
     → Running dir (take i lines) old now replies → updates_in lines ≤ old.left → updates_in (get_or lines i d ∷ []) ≤ now.left
 call_at dir lines i d old now replies below run calls =
@@ -69,7 +69,7 @@ reply_at-last replies p =
     let z : length replies - length replies ≡ 0 = omega arith in
     ap (λ (o : Option Placed). option_map (λ (q : Placed). q.reply) o) (slice_get-append_back replies (p ∷ []) (length replies) (omega arith) ∙ ap (λ (n : ℕ). slice_get (p ∷ []) n) z)
 
--- the place of the last listing, one answer later
+-- the place of the last listing after one more answer
 pub last_turn : (lines : List RequestLine) (i : ℕ) (d : RequestLine) (replies : List Placed) (p : Placed) (last : Option ℕ) → i < length lines → length (take i lines) ≡ length replies
     → reply_at replies last ≡ last_listing (answered_lines (take i lines) replies) → ForSome last (λ k. k < length replies)
     → reply_at (replies ++ p ∷ []) (if is_listing (get_or lines i d).request then Some (length replies) else last)

@@ -8,7 +8,7 @@ use Rattle.key_map.specs.History.{after}
 use Rattle.bucket_terms.specs.PassView.{PassView}
 use Rattle.page_rules.specs.Cursor.{CursorView, IsNext, IsOver, Took}
 
--- how many ranks are left to look at, with the one behind the last of `n - 1`
+-- how many ranks are left to look at, with the one after the last of `n - 1`
 abbrev pub left_at : ℕ → Option ℕ → ℕ
 left_at n None = 0
 left_at n (Some rank) = n - rank
@@ -36,7 +36,7 @@ ranks_smaller old new rank p m here within first took =
 pub next_is : (v : CursorView) (rank : ℕ) (p : Pair) (m : List Pair) → v.next ≡ Some rank → first_from rank m ≡ Some p → IsNext v m p
 next_is v rank p m here first = subst (λ (o : Option ℕ). IfSome o (λ r. first_from r m ≡ Some p)) (sym here) first
 
--- where no pair is left, nothing is left to take
+-- if no pair is left, nothing is left to take
 pub over_is : (v : CursorView) (rank : ℕ) (m : List Pair) → v.next ≡ Some rank → first_from rank m ≡ None → IsOver v m
 over_is v rank m here none =
     subst (λ (o : Option ℕ). IfSome o (λ r. IfSome (first_from r m) (λ p. length v.dir ≤ p.key))) (sym here)

@@ -16,7 +16,7 @@ use Rattle.bucket_terms.specs.RunParts.{is_earlier_of}
 abbrev pub IsLaterLine : PassView → ℕ → Type 0
 IsLaterLine pass line = All (λ (u : Update). u.client ≡ pass.number → u.line < line) pass.seen
 
--- what the pass's client is answered in
+-- the setting in which the pass's client is answered
 abbrev pub setting : List (List ℕ) → PassView → ℕ → Setting
 setting dir pass slots = record { dir = dir; updates = pass.seen; client = pass.number; slots = slots }
 
@@ -79,15 +79,15 @@ pub record Answers (dir : List (List ℕ)) (old new : PassView) (last : Option R
   pub closed : new.opened ≡ None
   pub client : a.placed.client ≡ old.number
   pub line : a.placed.line ≡ a.asked.line
-  -- its place is one that the pass came to know in this call, or the last one before it
+  -- its place is one that the pass learned in this call, or the last one before it
   pub from : MatchOption a.placed.at ⊤ (λ at. length old.seen ≤ at)
   pub upto : MatchOption a.placed.at ⊤ (λ at. at ≤ length new.seen)
-  -- it is right for a client whose slots are used up where the pass lacks some
+  -- it is right for a client whose slots are used up if the pass lacks some
   pub right : (slots : ℕ) → (IsShort old → slots ≤ count_by (is_earlier_of (setting dir old slots) a.asked.line) old.seen)
       → IsRight (setting dir new slots) last a.asked a.placed.at a.placed.reply
   -- an own update that is new is the one of this line
   pub made : (i : ℕ) (u : Update) → length old.seen ≤ i → slice_get new.seen i ≡ Some u → u.client ≡ old.number → IsMadeBy dir u (i + 1) a
-  -- each own update takes a node slot, four entry slots and a call at most
+  -- each own update takes at most a node slot, four entry slots and a call
   pub nodes : old.nodes + length old.mine ≤ new.nodes + length new.mine
   pub entries : old.entries + 4 * length old.mine ≤ new.entries + 4 * length new.mine
   pub left : new.left + length new.mine ≡ old.left + length old.mine
@@ -95,7 +95,7 @@ pub record Answers (dir : List (List ℕ)) (old new : PassView) (last : Option R
   pub looks : HasLooked (setting dir new 0) a old.looks new.looks
   pub ended : Ended (setting dir new 0) new a
 
--- the requests were answered in turn, behind these earlier answers: each over what the pass knew after the one
+-- the requests were answered in turn, after these earlier answers: each over what the pass knew after the one
 -- before it
 abbrev pub AnswersInTurn : List (List ℕ) → List Answered → PassView → PassView → List RequestLine → List Placed → Type 0
 AnswersInTurn dir earlier old new [] [] = new ≡ old
@@ -117,12 +117,12 @@ pub record RanClient (dir : List (List ℕ)) (lines : List RequestLine) (old new
   -- no place is below what the pass knew
   pub places : All (λ (p : Placed). MatchOption p.at ⊤ (λ at. length old.seen ≤ at)) replies
   pub looks : RoseBy (count_by (is_looked_up (setting dir new 0)) (answered_lines lines replies)) old.looks new.looks
-  -- each request had its own turn, and looked in it alone
+  -- each request had its own turn, and only it looked in that turn
   pub in_turn : AnswersInTurn dir [] old new lines replies
   pub in_range : All (λ (p : Placed). HasPageInRange dir p.reply) replies
   pub ended : (front : List Answered) (a : Answered) → answered_lines lines replies ≡ front ++ a ∷ [] → Ended (setting dir new 0) new a
 
--- after want of memory: updates may have been made, what the pass knew it still knows, and no snapshot is open
+-- after out of memory: updates may have been made, the pass still knows what it knew, and no snapshot is open
 pub record Stopped (old new : PassView) : Type 0 where
   pub closed : new.opened ≡ None
   pub number : new.number ≡ old.number

@@ -1,3 +1,4 @@
+-- The definitions of the run of one client over a pass.
 pub mod ClientRun
 pub mod Listing
 pub mod Starts

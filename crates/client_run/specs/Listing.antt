@@ -20,7 +20,7 @@ pub record ListedAt (dir : List (List ℕ)) (query : ListQuery) (point : Option 
   pub is_page : page ≡ page_of dir query point (after new.seen at)
   pub in_range : IsInRange dir page
 
--- at most the pass has looked and come to know more
+-- the pass has at most looked, and learned of more updates
 pub record LookedOnly (old new : PassView) : Type 0 where
   pub closed : new.opened ≡ None
   pub number : new.number ≡ old.number

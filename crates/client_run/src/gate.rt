@@ -1,4 +1,4 @@
-/// Told of each request before and after it is answered. A test holds clients at it.
+/// Notified of each request before and after it is answered. A test holds clients at it.
 pub trait Gate {
     fn before(&self, client: u32, line: u32);
 

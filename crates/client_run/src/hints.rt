@@ -6,8 +6,8 @@ ghost use Rattle.client_run.specs.Hints.{IsRightHint};
 use key_names::{Directory, Text};
 use request_lines::Requests;
 
-// The names of so many requests are looked at before the first of them is answered. Each may lie anywhere in memory, and
-// the waits for all of them are one then.
+// The names of this many requests are looked at before the first of them is answered. Each may lie anywhere in memory,
+// and this way the waits for all of them overlap.
 const AHEAD: usize = 16;
 
 /// Where the directory may have the name of a request, and how many bytes the name there has.
@@ -18,7 +18,7 @@ pub(crate) struct Hint {
 }
 
 impl Hint {
-    // A hint that is right for no name: each name has a byte at least.
+    // A hint that is right for no name: each name has at least one byte.
     fn none() -> Hint {
         Hint { rank: 0, len: 0 }
     }
@@ -33,7 +33,7 @@ impl Hint {
         Hint::none()
     }
 
-    /// The rank, if the name there is this one and has so many bytes.
+    /// The rank, if the name there is this one and has this many bytes.
     pub(crate) fn rank_of(&self, dir: &Directory, name: &Text) -> Option<u64>
         ensures rank { IfSome result (IsRank dir.now name.now) }
         ensures right { IsRightHint dir.now name.now self.now → result ≡ Some self.now.rank }

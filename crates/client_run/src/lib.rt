@@ -1,6 +1,6 @@
 //! The run of one client: its requests, in order, over any pass that keeps the clauses of `KeyPass`. The layer above
 //! uses `run_client`, whose clause says that the replies are those of a legal run over the history that the pass knows
-//! in the end; and `run_pooled`, whose passes trade node slots through a depot around each update.
+//! at the end; and `run_pooled`, whose passes trade node slots through a depot around each update.
 #![tactic(auto)]
 
 mod gate;

@@ -31,7 +31,7 @@ pub fn list<P: KeyPass, Rt: Wait>(
     list_known(rt, alloc, pass, &known, query, point)
 }
 
-// As `list`, on the names of a directory whose prefixes are known: a known one is not searched for.
+// The same as `list`, on the names of a directory whose prefixes are known: a known one is not searched for.
 pub(crate) fn list_known<P: KeyPass, Rt: Wait>(
     rt: &Rt,
     alloc: Global,
@@ -54,7 +54,7 @@ pub(crate) fn list_known<P: KeyPass, Rt: Wait>(
     }
 }
 
-// The page of a query in the open snapshot. Each look-up goes on behind the entry before it.
+// The page of a query in the open snapshot. Each look-up starts after the entry before it.
 fn page_in<P: KeyPass, Rt: Wait>(
     rt: &Rt,
     alloc: Global,

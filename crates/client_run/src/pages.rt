@@ -1,4 +1,4 @@
-// LIST and NEXT: which query is asked, from which point on, and its page.
+// LIST and NEXT: the query, the point at which its page begins, and the page.
 ghost use Rattle.std.specs.Prelude.{◌≡◌, None, Some, Option, IfOk, OnErr};
 ghost use Rattle.std.specs.Option.{option_copied, option_map, ForSome};
 ghost use Rattle.bucket_terms.specs.declared.request.Request.TheVariants.{List as ListRequest, Next};
@@ -19,9 +19,9 @@ use page_token::TokenError;
 use std::alloc::Global;
 use std::sync::Wait;
 
-/// The query of the next page behind a reply: None exactly where there is no reply, or it is no listing, or
-/// its page is not truncated. Else it is the query of the reply, with the token of its page: the text that the line of
-/// the reply shows.
+/// The query of the next page after a reply: None exactly where there is no reply, or it is no listing, or
+/// its page is not truncated. Otherwise it is the query of the reply, with the token of its page: the text that the
+/// line of the reply shows.
 pub fn next_query(
     alloc: Global,
     dir: &Directory,
@@ -39,14 +39,14 @@ pub fn next_query(
     }
 }
 
-/// Where a listing goes on: its query, with the token of the page before, and the point behind that page.
+/// Where a listing continues: its query, with the token of the page before, and the point after that page.
 #[derive(Drop)]
 pub struct Resumption {
     pub query: ListQuery,
     pub point: TokenPoint,
 }
 
-/// Where the page behind a reply begins. None exactly as `next_query` says.
+/// Where the page after a reply begins. None exactly as `next_query` says.
 pub fn resume(
     alloc: Global,
     dir: &Directory,
@@ -100,13 +100,13 @@ fn behind(
 pub enum Start {
     /// At the first admitted key.
     First,
-    /// Behind this point.
+    /// After this point.
     Behind(TokenPoint),
-    /// Nowhere: the text is that of no token, or of another listing's.
+    /// Nowhere: the text is not a token, or is that of another listing.
     Bad,
 }
 
-/// Where the token of a query tells the listing to begin. An error is want of memory.
+/// Where a listing begins according to the token of its query. The only error is out of memory.
 pub fn start_of(alloc: Global, query: &ListQuery) -> Result<Start, NoMemory>
     ensures { IfOk result (IsStartOf query.now) }
 {
@@ -120,7 +120,7 @@ pub fn start_of(alloc: Global, query: &ListQuery) -> Result<Start, NoMemory>
     }
 }
 
-// Behind the point of a token, where the token belongs to this listing.
+// After the point of a token, where the token belongs to this listing.
 fn start_behind(token: Token, query: &ListQuery) -> Start
     ensures { IsStartBehind query.now token result }
 {

@@ -1,5 +1,5 @@
 //! Passes hand node slots to one another through a depot: before an update a pass that owns none takes one, and after
-//! it one that owns more than its own gives the free ones that are too many.
+//! it a pass that owns more than its own number gives away the free ones in excess.
 ghost use Rattle.std.specs.Prelude.{◌≡◌, ◌+◌, ◌<◌, ◌≤◌, ◌⊎◌, None, IfSome, MatchOption};
 ghost use Rattle.bucket_terms.specs.Pool.{Lent};
 ghost use Rattle.slot_depot.specs.Depots.{IsSameSeat, IsSeatOf};
@@ -9,7 +9,7 @@ use bucket_terms::PoolPass;
 use slot_depot::{Depot, DepotSeat};
 use std::sync::Wait;
 
-/// Takes a node slot out of the depot, where the pass owns none. After it the pass owns one, or `empties` of its seat
+/// Takes a node slot out of the depot if the pass owns none. Afterwards the pass owns one, or `empties` of its seat
 /// has risen by one, which `take` does only after a look that has found the depot empty.
 pub fn top_up<P: PoolPass, Rt: Wait>(
     rt: &Rt,
@@ -32,8 +32,8 @@ pub fn top_up<P: PoolPass, Rt: Wait>(
     }
 }
 
-/// Gives free node slots to the depot while the pass owns more than `own`. One that comes back is the pass's again, and
-/// ends this.
+/// Gives free node slots to the depot while the pass owns more than `own`. If one comes back, it is the pass's again,
+/// and this ends.
 pub fn hand_over<P: PoolPass, Rt: Wait>(
     rt: &Rt,
     pass: &mut P,

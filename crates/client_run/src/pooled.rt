@@ -24,9 +24,9 @@ use std::alloc::Global;
 use std::sync::Wait;
 
 /// Answers the client's requests as `run_client` does, and trades node slots around each PUT, PUTNEW and DELETE: before
-/// it a pass that owns none takes one out of the depot, and behind it one that owns more than `own` gives away what is
-/// free. The gate is told before the first trade and after the second. After `NoMemory` updates may have been made, and
-/// slots traded.
+/// it a pass that owns none takes one out of the depot, and after it one that owns more than `own` gives away what is
+/// free. The gate is notified before the first trade and after the second. After `NoMemory` updates may have been made,
+/// and slots traded.
 pub fn run_pooled<P: PoolPass, G: Gate, Rt: Wait>(
     rt: &Rt,
     alloc: Global,

@@ -17,8 +17,8 @@ use request_lines::{Asked, ClientPart};
 use std::alloc::Global;
 use std::sync::Wait;
 
-/// Answers the client's requests, in order, over a pass. The gate is told before and after each.
-/// The replies are those of a legal run over the history that the pass knows in the end. After `NoMemory`
+/// Answers the client's requests, in order, over a pass. The gate is notified before and after each.
+/// The replies are those of a legal run over the history that the pass knows at the end. After `NoMemory`
 /// updates may have been made.
 pub fn run_client<P: KeyPass, G: Gate, Rt: Wait>(
     rt: &Rt,
@@ -55,7 +55,7 @@ pub fn run_client<P: KeyPass, G: Gate, Rt: Wait>(
     Ok(replies)
 }
 
-/// The directory, with the ranks of the prefixes that the client's listings name: each is looked for once.
+/// The directory, with the ranks of the prefixes that the client's listings name: each is searched for once.
 pub(crate) fn known_prefixes<'a>(
     alloc: Global,
     dir: &'a Directory,
@@ -112,7 +112,7 @@ pub(crate) fn answer<P: KeyPass, Rt: Wait>(
     }
 }
 
-// The place of the last LIST or NEXT: this request's, or else the one so far.
+// The place of the last LIST or NEXT: this request's, or otherwise the one so far.
 pub(crate) fn later_listing(last: Option<usize>, request: &Request, place: usize) -> Option<usize>
     ensures { result ≡ (if is_listing request.now then Some place else last) }
 {

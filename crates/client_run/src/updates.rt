@@ -1,4 +1,4 @@
-// PUT, PUTNEW, DELETE and HEAD, each answered by calls of the pass. Before an update the pass gathers entries, where it
+// PUT, PUTNEW, DELETE and HEAD, each answered by calls of the pass. Before an update the pass gathers entries if it
 // lacks some.
 ghost use Rattle.std.specs.Prelude.{◌≡◌, ◌<◌, None, Some, Option, Contains};
 ghost use Rattle.key_names.specs.Names.{IsRank};
@@ -130,7 +130,7 @@ fn head_reply(found: Option<u64>) -> Reply
     }
 }
 
-// The rank of a name that the directory has. It is searched for only where the hint is not the rank.
+// The rank of a name that the directory has. It is searched for only if the hint is not the rank.
 fn rank_of(dir: &Directory, name: &Text, hint: Hint) -> u64
     requires { Contains dir.now name.now }
     ensures { IsRank dir.now name.now result }

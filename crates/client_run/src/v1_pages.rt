@@ -36,7 +36,7 @@ pub(crate) fn v1_request<P: KeyPass, Rt: Wait>(
     listed_v1(rt, alloc, pass, known, line, shown, plain, point)
 }
 
-// The reply that shows the query, with the page of the plain one, from a point on.
+// The reply that shows the query, with the page of the plain query, from a point on.
 fn listed_v1<P: KeyPass, Rt: Wait>(
     rt: &Rt,
     alloc: Global,

@@ -1,4 +1,4 @@
--- The clients of a run with a depot: their seats, and what is left in the end.
+-- The clients of a run with a depot: their seats, and what is left at the end.
 use Rattle.std.proofs.Common.{◌≡◌, ℕ, zero, suc, ◌+◌, ◌<◌, List, [], ◌∷◌, ◌++◌, Result, length, get_or, inl, inr, refl, sym, ap, ◌∙◌, subst, arith}
 use Rattle.std.specs.List.{insert, remove}
 use Rattle.std.proofs.lemmas.Bool.{cases_lt}
@@ -52,7 +52,7 @@ module _ (index : Home) (depot : Opened) (room n : ℕ) where
         home = ap (λ (t : Terms). t.home) same;
       })
 
--- the seats behind the run are those of before
+-- the seats after the run are those before it
 pub same_seats : (depot : Opened) (old new : List Seated) → AreAllSeats depot old → length new ≡ length old
     → ((i : ℕ) (d : Seated) → i < length new → IsSameSeat (get_or old i d) (get_or new i d)) → AreAllSeats depot new
 same_seats depot old new all long same = record {

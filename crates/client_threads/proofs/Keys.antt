@@ -101,7 +101,7 @@ client_fresh named clients keys c d are lt =
 pub none_seen : (pass : PassView) (line : ℕ) → pass.seen ≡ [] → IsLaterLine pass line
 none_seen pass line none = subst (λ (us : List Update). All (λ (u : Update). u.client ≡ pass.number → u.line < line) us) (sym none) (All-nil (λ (u : Update). u.client ≡ pass.number → u.line < line))
 
--- the keys are those that a run of the session wants
+-- the keys are those that a run of the session requires
 pub can_run : (dir : List (List ℕ)) (named : Option ℕ) (session : Session) (index : Home) (keys : List Pass) → CanServe dir session → AreAllKeys index keys
     → AreFresh 0 (sizes_of named session.clients) keys → CanRunEach dir index (parts_of session.clients) keys
 can_run dir named session index keys can all are = record {
@@ -122,9 +122,9 @@ can_run dir named session index keys can all are = record {
     long : length keys ≡ length (parts_of session.clients)
     long = omega (arith, fresh_length 0 (sizes_of named session.clients) keys are, length-map session.clients (size_of named), length-map session.clients request_lines)
 
--- ---- the keys behind the run
+-- ---- the keys after the run
 
--- a named number of slots counts whole where a pass has as many
+-- a named number of slots counts in full if a pass has as many
 counted_named : (named : Option ℕ) (asked : ℕ) → counted named (unwrap_or named asked) ≡ unwrap_or named asked
 counted_named None asked = refl
 counted_named (Some n) asked = grind (arith, nat_tests)

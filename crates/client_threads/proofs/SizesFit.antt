@@ -14,7 +14,7 @@ use Rattle.request_lines.specs.SessionLaws.{all_requests}
 use Rattle.client_threads.specs.ClientSlots.{IsNamable}
 use Rattle.client_threads.specs.Sizes.{AreFew, size_of, sizes_of}
 
--- a client has at most as many PUT and DELETE lines as requests
+-- a client has at most as many PUT, PUTNEW and DELETE lines as requests
 updates_few : (part : ClientPart) → updates_in (request_lines part) ≤ length part.requests
 updates_few part = omega (arith, count_by-le-length (λ (l : RequestLine). is_update l.request) (request_lines part), length-map part.requests request_line)
 

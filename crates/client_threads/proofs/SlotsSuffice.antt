@@ -71,7 +71,7 @@ changes dir u (PutNew name val) is = refl
 changes dir u (Delete name) is = refl
 changes dir u request is = absurd is
 
--- an update is counted where its place is reached
+-- an update is counted when its place is reached
 one_more : (dir : List (List ℕ)) (u : Update) (at : ℕ) (answers : List Answered) → Any (IsMadeBy dir u (at + 1)) answers
     → sum_by (counted at) answers < sum_by (counted (at + 1)) answers
 one_more dir u at answers made =
@@ -91,7 +91,7 @@ step true false x y more le = omega arith
 step false earlier x y more le = omega arith
 
 module _ (s : Setting) (line : ℕ) (answers : List Answered) where
-  -- the updates behind the first `at`, with the answers that have a place up to there
+  -- the updates after the first `at`, with the answers that have a place up to there
   few : (us : List Update) (at : ℕ) → ((j : ℕ) (u : Update) → slice_get us j ≡ Some u → u.client ≡ s.client → Any (IsMadeBy s.dir u (at + j + 1)) answers)
       → count_by (is_earlier_of s line) us + sum_by (counted at) answers ≤ sum_by may_update answers
   few [] at made = omega (arith, sum_by-le-sum_by (counted at) may_update answers (λ (a : Answered). counts_most (is_update a.asked.request) at a.placed.at))

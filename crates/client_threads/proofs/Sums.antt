@@ -5,7 +5,7 @@ use Rattle.std.proofs.lemmas.List.{take_all}
 use Rattle.std.proofs.lemmas.List.Sums.{sum_by_more, sum_by_more_le}
 
 module _ {X : Type 0} (f : X → ℕ) (xs : List X) (i : ℕ) (x d : X) (so_far : ℕ) (before : so_far ≡ sum_by f (take i xs)) (is : x ≡ get_or xs i d) (within : i < length xs) where
-  -- the next element fits beside those before it, where all fit
+  -- the next element can be added to those before it, if all fit
   pub next_fits : sum_by f xs < 2 ^ 64 → so_far + f x < 2 ^ 64
   next_fits fits = omega (arith, before, ap f is, sum_by_more_le f xs i d within, fits)
 

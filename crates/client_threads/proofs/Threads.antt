@@ -1,4 +1,4 @@
--- What comes of the threads of a run.
+-- The results of the threads of a run.
 use Rattle.std.proofs.Common.{◌≡◌, ℕ, ◌<◌, List, [], ◌∷◌, ◌++◌, length, get_or, Result, Ok, IfOk, inl, inr, refl, sym, ap, ◌∙◌, subst, arith}
 use Rattle.std.proofs.lemmas.Bool.{cases_lt}
 use Rattle.std.proofs.lemmas.List.{length-map, get_or-map, length_push, get_or_append_left, get_or_push}
@@ -51,7 +51,7 @@ ran_key dir index lines asked key attached left back replies kept of same_key sa
 pub no_parts : {S E : Type 0} → AreParts {S = S} {E = E} [] [] [] []
 no_parts = record { keys_length = refl; seats_length = refl; replies_length = refl; each = λ i d e s lt. absurd (omega (arith, lt)) }
 
--- one result more
+-- one more result
 pub one_part_more : {S E : Type 0} (results : List (Result (Ran S) E)) (keys : List Pass) (seats : List S) (replies : List (List Placed)) (last : Result (Ran S) E) (key : Pass) (seat : S) (answered : List Placed)
     → AreParts results keys seats replies → last ≡ Ok (record { key = key; seat = seat; replies = answered })
     → AreParts (results ++ last ∷ []) (keys ++ key ∷ []) (seats ++ seat ∷ []) (replies ++ answered ∷ [])
@@ -86,7 +86,7 @@ came_apart {S = S} {E = E} P jobs results keys seats replies came are c j e s lt
     let some : Result (Ran S) E = Ok (record { key = e; seat = s; replies = [] }) in
     subst (λ (r : Result (Ran S) E). IfOk r (P c (get_or jobs c j))) (are.each c some e s (omega (arith, came.one_each))) (came.each c j some lt)
 
--- where all went well, each client was run
+-- if all went well, each client was run
 pub ran_each_part : {S E : Type 0} (dir : List (List ℕ)) (index : Home) (parts : List (List RequestLine)) (keys : List Pass) (results : List (Result (Ran S) E)) (back : List Pass) (seats : List S)
     (replies : List (List Placed)) (seat : S)
     → length keys ≡ length parts → CameOf (RanOne dir index parts) keys results → AreParts results back seats replies → RanOverEach dir index parts keys back replies

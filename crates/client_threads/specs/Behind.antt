@@ -10,13 +10,13 @@ use Rattle.table_steps.specs.Passes.{Pass}
 use Rattle.shared_index.specs.Keys.{IsKeyOf}
 use Rattle.shared_index.specs.Shown.{shown}
 
--- of the node slots that a pass owns as many count as are named, where some are
+-- of the node slots that a pass owns, at most as many count as are named, if a number is named
 abbrev pub counted : Option ℕ → ℕ → ℕ
 counted None nodes = nodes
 counted (Some n) nodes = min n nodes
 
--- this client's lines were answered over a pass that began as that of the key `old`, with the node slots that count, and
--- knew no more in the end than that of the key `new`, which has its updates
+-- this client's lines were answered over a pass that began as that of the key `old`, with the node slots that count,
+-- and at the end knew no more than that of the key `new`, which has its updates
 pub record RanBehind (named : Option ℕ) (dir : List (List ℕ)) (index : Home) (client : ℕ) (lines : List RequestLine) (old new : Pass) (replies : List Placed) : Type 0 where
   pub of : IsKeyOf index new
   pub number : (shown new).number ≡ client

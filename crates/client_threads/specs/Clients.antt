@@ -11,8 +11,8 @@ use Rattle.client_run.specs.ClientRun.{RanClient}
 use Rattle.client_threads.specs.Runs.{parts_of}
 
 -- one client's lines were answered over the pass of this number, which had made no update before and owned at
--- least so many node slots, and four entry slots for each. The history begins with what the pass knows in the
--- end, and has no updates of this number but the pass's own.
+-- least this many node slots, and four entry slots for each. The history begins with what the pass knows at the
+-- end, and has no updates of this number other than the pass's own.
 pub record RanWithin (dir : List (List ℕ)) (history : List Update) (client slots : ℕ) (lines : List RequestLine) (replies : List Placed) : Type 0 where
   pub old : PassView
   pub new : PassView
@@ -30,8 +30,8 @@ pub record RanEach (dir : List (List ℕ)) (parts : List (List RequestLine)) (sl
   pub each : (c : ℕ) → c < length parts → RanWithin dir run.updates c (slots c) (lines_of parts c) (replies_of run c)
   pub by_client : (i : ℕ) (u : Update) → slice_get run.updates i ≡ Some u → u.client < length parts
 
--- the clients of a session were run so, each with the slots that are named or that its lines ask for, to these updates
--- and replies
+-- the clients of a session were run so, each with the slots that are named or that its lines ask for, with these
+-- updates and replies as the result
 abbrev pub RanSession : List (List ℕ) → Option ℕ → List ClientPart → List Update → List (List Placed) → Type 0
 RanSession dir named clients updates replies =
     RanEach dir (parts_of clients) (slots_under named (parts_of clients)) (record { updates = updates; replies = replies })

@@ -1,5 +1,5 @@
 -- Helper: the headline does not rest on this file.
--- What comes of the threads of a run with a depot.
+-- The results of the threads of a run with a depot.
 use Rattle.std.specs.Prelude.{◌≡◌, ℕ, ◌<◌, List, length, slice_index_or}
 use Rattle.bucket_terms.specs.LegalRun.{RequestLine, lines_of}
 use Rattle.bucket_terms.specs.Pool.{Traded}
@@ -40,7 +40,7 @@ pub record CanPoolEach (dir : List (List ℕ)) (index : Home) (depot : Opened) (
   pub each : (c : ℕ) (d : SeatedKey) → c < length parts → CanRun dir index c (lines_of parts c) (slice_index_or jobs c d).key
   pub seats : (c : ℕ) (d : SeatedKey) → c < length parts → IsSeatFor index depot (slice_index_or jobs c d).seat
 
--- what came of a client: its lines were answered, and its seat is the same one
+-- the result of a client: its lines were answered, and its seat is the same one
 pub record PooledOne (own : ℕ) (dir : List (List ℕ)) (index : Home) (parts : List (List RequestLine)) (client : ℕ) (job : SeatedKey) (ran : Ran Seated) : Type 0 where
   pub over : PooledOver own dir index client (lines_of parts client) job.key ran.key ran.replies
   pub seat : IsSameSeat job.seat ran.seat

@@ -1,5 +1,5 @@
 -- Helper: the headline does not rest on this file.
--- A set of keys beside a map.
+-- A set of keys and a map.
 use Rattle.std.specs.Prelude.{◌≡◌, ℕ, List, length, nat_eq}
 use Rattle.std.specs.HashSet.{HashSet, contains, hash_set_len}
 use Rattle.key_map.specs.declared.pair.Pair.{Pair}

@@ -1,3 +1,4 @@
+-- The definitions of the run of several clients over one index.
 pub mod ClientSlots
 pub mod SlotsSuffice
 pub mod Clients

@@ -15,26 +15,26 @@ use Rattle.shared_index.specs.Shown.{shown}
 use Rattle.client_threads.specs.declared.node_slots.NodeSlots.{NodeSlots}
 use Rattle.client_threads.specs.declared.node_slots.NodeSlots.TheVariants.{AsAsked, Named, Pooled}
 
--- the number of node slots that is named, where one is
+-- the number of node slots that is named, if any
 abbrev pub named : NodeSlots → Option ℕ
 named AsAsked = None
 named (Named n) = Some n
 named (Pooled n) = Some n
 
--- where the last of these lines was refused for want of slots, the pass lacks some
+-- if the last of these lines was refused for want of slots, the pass lacks some
 abbrev pub EndsShort : List RequestLine → List Placed → PassView → Type 0
 EndsShort lines replies pass = (front : List Answered) (a : Answered) → answered_lines lines replies ≡ front ++ a ∷ [] → a.placed.reply ≡ NoSlot → IsShort pass
 
--- this client's lines were answered over the pass whose key was `old` before and is `new` now, of which at most `own` node
--- slots count: what it owns above them it may have given away
+-- this client's lines were answered over the pass whose key was `old` before and is `new` now, of which at most `own`
+-- node slots count: it may have given away what it owns above them
 pub record PooledOver (own : ℕ) (dir : List (List ℕ)) (index : Home) (client : ℕ) (lines : List RequestLine) (old new : Pass) (replies : List Placed) : Type 0 where
   pub of : IsKeyOf index new
   pub number : (shown new).number ≡ client
   pub ran : RanClient dir lines (capped own (shown old)) (capped own (shown new)) replies
   pub refused : EndsShort lines replies (shown new)
 
--- the client was run so, and the key was `behind` then. At the end the first client's pass adopts the node slots that are
--- left in the depot, and no other one does.
+-- the client was run so, and the key was `behind` after its run. At the end the first client's pass, and no other,
+-- adopts the node slots that are left in the depot.
 pub record PooledToEnd (own : ℕ) (dir : List (List ℕ)) (index : Home) (client : ℕ) (lines : List RequestLine) (old new : Pass) (replies : List Placed) : Type 0 where
   pub behind : Pass
   pub ran : PooledOver own dir index client lines old behind replies

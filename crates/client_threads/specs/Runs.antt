@@ -19,7 +19,7 @@ abbrev pub parts_of : List ClientPart → List (List RequestLine)
 parts_of clients = map request_lines clients
 
 -- this client's lines can be answered over the pass of this key: the key is of the index and has the client's number,
--- the names are in the directory, updates enough are left, and the lines rise from above those of the pass's own
+-- the names are in the directory, enough updates are left, and the lines rise from above those of the pass's own
 -- updates
 pub record CanRun (dir : List (List ℕ)) (index : Home) (client : ℕ) (lines : List RequestLine) (key : Pass) : Type 0 where
   pub of : IsKeyOf index key

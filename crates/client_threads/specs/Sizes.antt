@@ -10,7 +10,7 @@ use Rattle.request_lines.specs.InputParts.{most_clients, most_requests}
 use Rattle.request_lines.specs.Session.{request_lines}
 use Rattle.request_lines.specs.SessionLaws.{IsAskable, HasRecordBelow, Rise, all_requests}
 
--- the size of the pass of a client that may make so many updates: the node slots that are named, or one more than the
+-- the size of the pass of a client that may make this many updates: the node slots that are named, or one more than the
 -- updates; four entry slots for each; and a call for each update
 abbrev pub size_for : Option ℕ → ℕ → PassSize
 size_for named updates = record {
@@ -25,7 +25,7 @@ size_of named part = size_for named (updates_in (request_lines part))
 abbrev pub sizes_of : Option ℕ → List ClientPart → List PassSize
 sizes_of named clients = map (size_of named) clients
 
--- these clients are some and few, and ask no more than a session may
+-- there is at least one of these clients, and there are no more clients and requests than a session may have
 pub record AreFew (clients : List ClientPart) : Type 0 where
   pub some : 0 < length clients
   pub few : length clients ≤ most_clients

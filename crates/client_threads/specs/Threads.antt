@@ -1,5 +1,5 @@
 -- Helper: the headline does not rest on this file.
--- What the runner of the program keeps, and what comes of its threads.
+-- What the runner of the program keeps, and the results of its threads.
 use Rattle.std.specs.Prelude.{◌≡◌, ℕ, ◌<◌, List, [], length, Option, Some, None, Result, Ok, IfOk, slice_index_or}
 use Rattle.bucket_terms.specs.declared.reply.Placed.{Placed}
 use Rattle.bucket_terms.specs.LegalRun.{RequestLine, lines_of}
@@ -23,13 +23,13 @@ pub record CanRunOne (dir : List (List ℕ)) (index : Home) (parts : List (List 
   pub there : (shown key).number < length parts
   pub can : CanRun dir index (shown key).number (lines_of parts (shown key).number) key
 
--- a client's key behind its run, what else its thread brought back, and its replies
+-- a client's key after its run, what else its thread brought back, and its replies
 pub record Ran (S : Type 0) : Type 0 where
   pub key : Pass
   pub seat : S
   pub replies : List Placed
 
--- what came of each job: where it went well, it was that of the client of its place
+-- the result of each job: if it went well, it was that of the client of its place
 pub record CameOf {J S E : Type 0} (P : ℕ → J → Ran S → Type 0) (jobs : List J) (results : List (Result (Ran S) E)) : Type 0 where
   pub one_each : length results ≡ length jobs
   pub each : (c : ℕ) (j : J) (d : Result (Ran S) E) → c < length jobs → IfOk (slice_index_or results c d) (P c (slice_index_or jobs c j))

@@ -23,7 +23,7 @@ use std::sync::Wait;
 use std::thread::Threads;
 
 /// Runs the clients over an index of their own, and closes it: the whole history of their updates. Each client has
-/// the named number of node slots, or one more than it has PUT, PUTNEW and DELETE lines. Where they are pooled,
+/// the named number of node slots, or one more than it has PUT, PUTNEW and DELETE lines. If they are pooled,
 /// clients hand node slots to one another.
 pub fn history_of<G: Gate + Sync, R: Runner<G>, Rt: Threads + Wait + Sync>(
     rt: &Rt,
@@ -43,7 +43,7 @@ pub fn history_of<G: Gate + Sync, R: Runner<G>, Rt: Threads + Wait + Sync>(
     history_over(rt, alloc, slots, index, keys, session, dir, gate, runner)
 }
 
-/// The same over an index that is open: all its keys are these, one for each client in order, with the slots that are
+/// The same over an index that is open: these are all its keys, one for each client in order, with the slots that are
 /// named or that its lines ask for.
 pub fn history_over<G: Gate + Sync, R: Runner<G>, Rt: Threads + Wait + Sync>(
     rt: &Rt,

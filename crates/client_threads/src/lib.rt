@@ -1,5 +1,5 @@
 //! Runs the clients of a session over one shared index, each over a pass of its own and on a thread of its own, and
-//! gives the whole history of their updates, with the numbers of the run. What runs the clients is a `Runner`;
+//! gives the whole history of their updates, with the numbers of the run. A `Runner` runs the clients;
 //! `Threaded` is the one of the program. The layer above reads the session, and writes the replies and the history.
 #![tactic(auto)]
 

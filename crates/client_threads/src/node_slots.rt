@@ -7,14 +7,14 @@ ghost use Rattle.client_threads.specs.Pools as spec;
 pub enum NodeSlots {
     /// One more than it has PUT, PUTNEW and DELETE lines.
     AsAsked,
-    /// So many.
+    /// This many.
     Named(u32),
-    /// So many, and clients hand one another what they own above them, through a depot.
+    /// This many, and clients hand one another what they own above that, through a depot.
     Pooled(u32),
 }
 
 impl NodeSlots {
-    /// The slots of each client, where so many or none are named.
+    /// The slots of each client, where this many or none are named.
     pub fn of_named(named: Option<u32>) -> NodeSlots
         ensures { spec.named result ≡ named }
     {
@@ -24,7 +24,7 @@ impl NodeSlots {
         }
     }
 
-    /// The number that is named, where one is.
+    /// The number that is named, if any.
     pub(crate) fn named(self) -> Option<u32>
         ensures { result ≡ spec.named self }
     {

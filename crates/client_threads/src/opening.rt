@@ -27,7 +27,7 @@ pub fn open_index(
     ensures fresh { IfOk result (λ opened. AreFresh 0 (spec.sizes_of slots clients.now) opened.1.items) }
 {
     let sizes = sizes_of(alloc, slots, clients)?;
-    // A client that is alone runs on this thread, and there alone what the opening gives back is allocated again.
+    // A single client runs on this thread, and only there what the opening gives back is allocated again.
     if sizes.len() == 1 {
         make_index_room(alloc, &sizes);
     }

@@ -9,7 +9,7 @@ use shared_index::PassKey;
 use std::alloc::Global;
 use std::marker::Model;
 
-/// The key of a client's pass behind its run, what else its thread brings back, and the replies.
+/// The key of a client's pass after its run, what else its thread brings back, and the replies.
 #[derive(Drop)]
 pub(crate) struct RanPart<S> {
     pub(crate) key: PassKey,
@@ -25,7 +25,7 @@ impl<S> Model for RanPart<S> {
     ghost view = { λ r. record { key = r.key; seat = r.seat; replies = r.replies } };
 }
 
-/// The keys, what else was brought back, and the replies of all clients, where each was run to its end.
+/// The keys, what else was brought back, and the replies of all clients, if each was run to its end.
 pub(crate) fn take_apart<S: Drop>(
     alloc: Global,
     mut results: Vec<Result<RanPart<S>, NoMemory>>,

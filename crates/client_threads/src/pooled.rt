@@ -26,8 +26,8 @@ use std::marker::Model;
 use std::sync::Wait;
 use std::thread::Threads;
 
-/// Runs the client of each key on a thread of its own, with a depot of so much room, and closes it. The keys come back,
-/// and the replies.
+/// Runs the client of each key on a thread of its own, with a depot of this much room, and closes the depot. The keys
+/// come back, and the replies.
 pub(crate) fn pool_each<G: Gate + Sync, Rt: Threads + Wait + Sync>(
     rt: &Rt,
     alloc: Global,
@@ -69,7 +69,7 @@ impl Model for SeatedKey {
     ghost view = { λ j. record { key = j.key; seat = j.seat } };
 }
 
-// A depot for the node slots of the index, with so many seats.
+// A depot for the node slots of the index, with this many seats.
 fn open_depot(
     alloc: Global,
     index: &SharedIndex,
@@ -82,7 +82,7 @@ fn open_depot(
     ensures each { IfOk result (λ opened. Every (IsSeatFor index.now opened.0) opened.1.items) }
     ensures seats { IfOk result (λ opened. length opened.1.items ≡ seats) }
 {
-    // No depot has more seats than that.
+    // No depot has more seats than this.
     let Ok(seats) = u32::try_from(seats) else {
         return Err(NoMemory);
     };

@@ -16,8 +16,8 @@ use std::sync::Wait;
 use std::thread::Threads;
 
 /// Runs the clients of a session, each over a pass of its own, and keeps their replies.
-/// `G` is the gate that is told of each request. It stands at the trait, since a method cannot lend a value of a type
-/// parameter of its own to threads.
+/// `G` is the gate that is notified of each request. It is a parameter of the trait, since a method cannot lend a value
+/// of a type parameter of its own to threads.
 ///
 /// ```
 /// let keys = runner.run_all(rt, alloc, &index, keys, &session, &dir, &OpenGate)?;
@@ -37,7 +37,7 @@ pub trait Runner<G: Gate + Sync> {
     /// used before, and the index may have further passes, which others use at the same time.
     ///
     /// # Errors
-    /// Want of memory ends the run. Updates may have been made then, and the keys are gone.
+    /// Out of memory ends the run. Updates may have been made then, and the keys are gone.
     fn run_all<Rt: Threads + Wait + Sync>(
         &mut self,
         rt: &Rt,
@@ -54,11 +54,11 @@ pub trait Runner<G: Gate + Sync> {
         ensures runs { OnOk result (runs self.new ≡ one_more (runs self.old)) }
         ensures never_fall { runs self.old ≤ runs self.new };
 
-    /// The same, and clients hand node slots to one another: each gives what it owns above `own` to a depot of so much
-    /// room, and takes one where it owns none. The first key's pass gets what is left in the end. There is a key.
+    /// The same, and clients hand node slots to one another: each gives what it owns above `own` to a depot of this
+    /// much room, and takes one if it owns none. The first key's pass gets what is left at the end. There is a key.
     ///
     /// # Errors
-    /// Want of memory ends the run. Updates may have been made then, and the keys are gone.
+    /// Out of memory ends the run. Updates may have been made then, and the keys are gone.
     fn run_pool<Rt: Threads + Wait + Sync>(
         &mut self,
         rt: &Rt,

@@ -23,7 +23,7 @@ use std::marker::Model;
 use std::sync::Wait;
 use std::thread::Threads;
 
-/// Runs each client on a thread of its own. Where a thread cannot be started, its client is run by the thread that was
+/// Runs each client on a thread of its own. If a thread cannot be started, its client is run by the thread that was
 /// to start it.
 ///
 /// ```
@@ -60,7 +60,7 @@ impl Threaded {
 }
 
 impl Threaded {
-    /// Runs the clients, for any gate, as `Runner::run_all` does it for each gate that the trait is implemented for. A
+    /// Runs the clients, for any gate, as `Runner::run_all` does for each gate that the trait is implemented for. A
     /// method of a trait cannot lend a value of a type parameter to threads.
     pub fn run_on_threads<G: Gate + Sync, Rt: Threads + Wait + Sync>(
         &mut self,
@@ -92,7 +92,7 @@ impl Threaded {
         Ok(keys)
     }
 
-    /// Runs the clients, for any gate, as `Runner::run_pool` does it for each gate that the trait is implemented for.
+    /// Runs the clients, for any gate, as `Runner::run_pool` does for each gate that the trait is implemented for.
     pub fn pool_on_threads<G: Gate + Sync, Rt: Threads + Wait + Sync>(
         &mut self,
         rt: &Rt,

@@ -1,4 +1,4 @@
--- What clap reads of the words of each form.
+-- What clap reads of the arguments of each form.
 use Rattle.std.proofs.Common.{◌≡◌, ℕ, ◌<◌, ◌≤◌, ◌^◌, true, Bool, List, [], ◌∷◌, ◌++◌, codes, length, get_or, Option, Some, None, refl, subst, sym, ap, ◌∙◌, inl, inr, arith}
 use Rattle.std.specs.Fmt.{decimal}
 use Rattle.std.specs.Option.{option_map}
@@ -26,12 +26,12 @@ pub program_simple : is_simple program ≡ true
 unfolding clap_on_literals
 program_simple = refl
 
--- ---- a number is one of nine digits and others behind it
+-- ---- a number is one of nine digits, followed by others
 
 abbrev sample_words : List ℕ → List (List ℕ)
 sample_words number = codes "sample" ∷ number ∷ []
 
--- an option: its number is the word behind it, or stands in the same word
+-- an option: its number is the argument after it, or stands in the same argument
 abbrev apart_words : List ℕ → List ℕ → List ℕ → List (List ℕ)
 apart_words verb option number = verb ∷ option ∷ number ∷ []
 
@@ -213,7 +213,7 @@ first_digit (d ∷ digits) some first all = record { d = d; digits = digits; is 
 decimal_digit_first : (n : ℕ) → 0 < n → n < 2 ^ 64 → BeginsWithDigit (decimal n)
 decimal_digit_first n some small = first_digit (decimal n) (decimal_nonempty n small) (first_decimal n some small) (digits_decimal numerals n small)
 
--- from digits to the numbers that they spell: clap takes these words, and reads this
+-- from digits to the numbers that they spell: clap takes these arguments, and reads this
 takes_decimal : (words : List ℕ → List (List ℕ)) → ((digits : List ℕ) (d : ℕ) → 48 < d → d < 58 → takes program (words (d ∷ digits)) ≡ true)
     → (n : ℕ) → 0 < n → n < 2 ^ 64 → takes program (words (decimal n)) ≡ true
 takes_decimal words of_digits n some small =
@@ -228,7 +228,7 @@ reads_decimal words read of_digits n some small =
     ap (λ (t : List ℕ). read_of (subcommand_of program (words t))) first.is ∙ of_digits first.digits first.d first.low first.high
     ∙ ap (λ (t : List ℕ). Some (read t)) (sym first.is)
 
--- clap takes the words of each form
+-- clap takes the arguments of each form
 takes_option : (verb option : List ℕ) (read : List ℕ → Text × Option Text × Option Text) (words : List (List ℕ)) (n : ℕ) → ReadsOption verb option read → HasOption verb option words n
     → takes program words ≡ true
 takes_option verb option read words n reads is = elim is.spelled [
@@ -295,7 +295,7 @@ pub record AnswersRead (m : ArgMatches) (result : Option Form) : Type 0 where
   pub check_slots : (n : ℕ) → read_of (subcommand_rows_of m) ≡ Some (codes "check", Some (decimal n), None) → n ≤ 8192 → result ≡ Some (Check (Some n))
   pub sample : (n : ℕ) → read_of (subcommand_rows_of m) ≡ Some (codes "sample", Some (decimal n), None) → n ≤ 40000 → result ≡ Some (Sample n)
 
--- the form of the words is read
+-- the form of the arguments is read
 pub form_read : (words : List (List ℕ)) (m : ArgMatches) (result : Option Form) (form : Form) → subcommand_rows_of m ≡ subcommand_of program words
     → AnswersRead m result → IsForm words form → result ≡ Some form
 form_read words m result (Run None) rows answers is = answers.run (ap read_of rows ∙ ap (λ (ws : List (List ℕ)). read_of (subcommand_of program ws)) is ∙ run_reads_alone)

@@ -1,2 +1,3 @@
+-- The forms of the command line, and what `clap` reads of the arguments.
 pub mod Words
 pub mod Program

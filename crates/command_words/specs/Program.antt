@@ -1,5 +1,5 @@
 -- Helper: the headline does not rest on this file.
--- The command that `clap` is given, and what it reads of words.
+-- The command that `clap` is given, and what it reads of arguments.
 use Rattle.std.specs.Prelude.{◌≡◌, ℕ, true, List, [], ◌∷◌, codes, Option, Some, None}
 use Rattle.std.specs.Option.{option_map}
 use Rattle.command_words.specs.declared.form.Form.{Form}
@@ -15,7 +15,7 @@ most_asked = 40000
 abbrev pub most_slots : ℕ
 most_slots = 8192
 
--- the words are this form
+-- the arguments are this form
 abbrev pub IsForm : List (List ℕ) → Form → Type 0
 IsForm words (Run None) = words ≡ codes "run" ∷ []
 IsForm words (Run (Some n)) = HasOption (codes "run") (codes "--slots") words n
@@ -44,13 +44,14 @@ check_app = with_rule (new_app (codes "check")) slots_rule
 abbrev pub sample_app : App
 sample_app = with_rule (new_app (codes "sample")) number_rule
 
--- no program's name stands in front of the words
+-- no program's name precedes the arguments
 abbrev pub bare_app : App
 bare_app = record (new_app (codes "bucketidx")) { top = record (new_app (codes "bucketidx")).top { no_binary_name = true } }
 
 abbrev pub program : App
 program = with_subcommand (with_subcommand (with_subcommand bare_app run_app.top) check_app.top) sample_app.top
 
--- the word of a subcommand, and its numbers, where it has them: the one of `sample` or of `--slots`, and the one of `--pool`
+-- the name of a subcommand, and its numbers, where it has them: the one of `sample` or of `--slots`, and the one of
+-- `--pool`
 abbrev pub read_of : Option (Text × List Row) → Option (Text × Option Text × Option Text)
 read_of = option_map (λ p. (p.0, first_of (codes "number") p.1, first_of (codes "pool") p.1))

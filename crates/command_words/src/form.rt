@@ -18,11 +18,11 @@ pub enum Form {
     Pool { slots: u32 },
     /// `check`: checks a written text of the session on standard input. `--slots N` or `--slots=N` is as for `run`.
     Check { slots: Option<u32> },
-    /// `sample N`: runs the generated session, with so many requests of each client, from 1 to 40,000.
+    /// `sample N`: runs the generated session, with N requests of each client, from 1 to 40,000.
     Sample(u32),
 }
 
-/// The form of these words, which stand behind the program's name, or None where they are none.
+/// The form of these arguments, which follow the program's name, or None where they are none.
 ///
 /// ```
 /// let words = [Text::of(alloc, "run")?, Text::of(alloc, "--slots=8")?];

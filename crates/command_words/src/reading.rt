@@ -1,4 +1,4 @@
-// What clap reads of the words.
+// What clap reads of the arguments.
 ghost use Rattle.std.specs.Prelude.{◌≡◌, ◌<◌, ◌≤◌, ◌^◌, ℕ, List, true, map, codes, false, Some, None, IfOk, MatchOption};
 ghost use Rattle.std.specs.Fmt.{decimal};
 ghost use Rattle.std.specs.Option.{option_map};
@@ -14,7 +14,8 @@ use clap::{Arg, ArgMatches, Command};
 use key_names::{NoMemory, Text};
 use std::alloc::{AllocError, Global};
 
-/// The form that clap reads in the words. Where they are a form, it reads that one; of other words it may read one too.
+/// The form that clap reads in the arguments. If they are a form, it reads that one; it may read one in other
+/// arguments too.
 pub(crate) fn read_words(alloc: Global, words: &[Text]) -> Result<Option<Form>, NoMemory>
     ensures { IfOk result (λ read. (form : TheForm) → IsForm words.now form → read ≡ Some form) }
 {
@@ -35,7 +36,7 @@ fn texts_of<'a>(alloc: Global, words: &'a [Text]) -> Result<Vec<&'a str>, NoMemo
     Ok(texts)
 }
 
-// The matches of the words, or None where clap refuses them.
+// The matches of the arguments, or None where clap refuses them.
 fn matches_of<'a>(alloc: Global, words: &'a [&'a str]) -> Result<Option<ArgMatches<'a>>, NoMemory>
     ensures { IfOk result (λ found. MatchOption found
         (¬ (takes spec.program (map (λ s. s.now) words.now) ≡ true))

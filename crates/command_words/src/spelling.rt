@@ -14,7 +14,7 @@ const MOST_ASKED: u32 = 40_000;
 /// The most node slots that `run` or `check` may be asked to give each client.
 const MOST_SLOTS: u32 = 8192;
 
-/// Whether the words are just as the form is written.
+/// Whether the arguments are exactly as the form is written.
 pub(crate) fn is_spelled(alloc: Global, words: &[Text], form: Form) -> Result<bool, NoMemory>
     ensures { IfOk result (λ spelled. IsTrue spelled ↔ IsForm words.now form) }
 {
@@ -37,7 +37,7 @@ fn is_alone(words: &[Text], verb: &[u8]) -> bool
     }
 }
 
-// Whether the words are the verb and this option with this number of slots.
+// Whether the arguments are the verb and this option with this number of slots.
 fn has_option(
     alloc: Global,
     words: &[Text],
@@ -85,7 +85,7 @@ fn digits_of(alloc: Global, n: u32) -> Result<Text, NoMemory>
     }
 }
 
-// The option and the number in one word.
+// The option and the number in one argument.
 fn joined_of(alloc: Global, option: &str, n: u32) -> Result<Text, NoMemory>
     ensures { IfOk result (λ text. text ≡ option.now ++ codes "=" ++ decimal n) }
 {

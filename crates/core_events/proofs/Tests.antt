@@ -41,7 +41,7 @@ number_of_is n (Some k) e = ap Some (eqb-true k n e)
 pub positive : (x : ℕ) → eqb x 0 ≡ false → 0 < x
 positive x p = grind (arith, nat_tests)
 
--- a seat has announced where its announcement is above 0
+-- a seat has announced if its announcement is above 0
 pub has_announced-is : (v : View) → 0 < v.announced → has_announced v ≡ true
 has_announced-is v some = by v.announced some
   where

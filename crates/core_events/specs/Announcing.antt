@@ -1,5 +1,5 @@
--- Announcements: before a pass reads at a number it announces how many updates it has seen, and a pass that cuts bundles
--- looks at what the others have announced. What each of these events needs, and the view afterwards.
+-- Announcements: before a pass reads at a number it announces how many updates it has seen, and a pass that cuts
+-- bundles looks at what the others have announced. What each of these events needs, and the view afterwards.
 use Rattle.std.specs.Prelude.{ℕ, ◌+◌, ◌-◌, [], ◌∷◌, ◌++◌, length, cond, not, Bool, false, nat_lt, ◌==◌, ◌&&◌, Option, Some, None, is_none, is_some}
 use Rattle.index_words.specs.declared.view.View.{View}
 use Rattle.index_words.specs.declared.word.Word.{Word}
@@ -32,7 +32,7 @@ abbrev pub may_look_ann : View → Word → ℕ → Bool
 may_look_ann v (Announced pass) value = is_some v.reading.section && not (is_number pass v.number) && value == 0
 may_look_ann v _ value = false
 
--- the announced number where one is announced, and it is the smaller one; `word` is what the announcement's word holds
+-- the announced number if one is announced and it is the smaller one; `word` is what the announcement's word holds
 abbrev pub smaller : ℕ → ℕ → ℕ
 smaller least word = cond (nat_lt 0 word && nat_lt (word - 1) least) (word - 1) least
 
@@ -40,6 +40,6 @@ abbrev pub lowered : Option ℕ → ℕ → Option ℕ
 lowered None word = None
 lowered (Some least) word = Some (smaller least word)
 
--- the pass was looked at, and the least number is none above what it has announced
+-- the pass was looked at, and the least number is not above what the pass has announced
 abbrev pub ann_loaded : View → ℕ → ℕ → View
 ann_loaded v pass word = record v { reading = record v.reading { least = lowered v.reading.least word; looked = v.reading.looked ++ pass ∷ [] } }

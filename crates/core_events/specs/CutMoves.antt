@@ -1,4 +1,4 @@
--- The view of a seat after a cut: the entries behind are retired, and nothing is known of them any more.
+-- The view of a seat after a cut: the entries after the cut are retired, and nothing is known of them any more.
 use Rattle.std.specs.Prelude.{ℕ, List, ◌++◌, cond, not, ◌==◌, None, map, filter}
 use Rattle.index_words.specs.declared.layout.Layout.{Layout}
 use Rattle.index_words.specs.declared.view.View.{View}
@@ -11,7 +11,7 @@ use Rattle.index_words.specs.Words.{Memory}
 use Rattle.key_map.specs.Lists.{has}
 use Rattle.core_events.specs.SpelledNow.{entries_on}
 
--- the entries behind this one, as the words have them
+-- the entries after this one, as the words have them
 abbrev pub cut_off : Layout → Memory → ℕ → List ℕ
 cut_off z m e = entries_on z m (m (Entry Next e))
 
@@ -25,11 +25,11 @@ place_cut back (Gap node side) = Gap node side
 abbrev pub next_cut : ℕ → HeldNext → HeldNext
 next_cut e h = cond (h.entry == e) (record h { next = 0 }) h
 
--- what was loaded of the entries that are cut off is forgotten, and where the next of this one was loaded it is known as 0
+-- what was loaded of the entries that are cut off is forgotten, and if the next of this one was loaded it is known as 0
 abbrev pub nexts_cut : ℕ → List ℕ → List HeldNext → List HeldNext
 nexts_cut e back nexts = map (next_cut e) (filter (λ (h : HeldNext). not (has h.entry back)) nexts)
 
--- cut: the entries behind are retired
+-- cut: the entries after this one are retired
 abbrev pub cut_view : View → ℕ → List ℕ → View
 cut_view v e back = record v {
   reading = record v.reading { place = place_cut back v.reading.place };

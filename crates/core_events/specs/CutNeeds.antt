@@ -1,4 +1,4 @@
--- The need of a cut, as a computed truth value: no number that is read, now or later, selects what stands behind the entry.
+-- The need of a cut, as a computed truth value: no number that is read, now or later, selects an entry that is cut off.
 use Rattle.std.specs.Prelude.{ℕ, List, not, Bool, false, nat_lt, ◌==◌, ◌&&◌, ◌||◌, Option, Some, None}
 use Rattle.std.specs.List.{list_any}
 use Rattle.index_words.specs.declared.layout.Layout.{Layout}
@@ -28,13 +28,14 @@ may_cut_at z m vs v least e h =
     is_number 0 h.mark && not (has h.node v.update.taken)
     && (selects_at z m vs least e h.node Left || selects_at z m vs least e h.node Right)
 
--- the seat has a least number, has looked at every other pass for it, and that number selects the entry at a locked node
+-- the seat has a least number, has looked at every other pass for it, and that number selects the entry at a locked
+-- node
 abbrev pub may_cut_by : Layout → Memory → List View → View → Option ℕ → ℕ → Bool
 may_cut_by z m vs v None e = false
 may_cut_by z m vs v (Some least) e =
     nat_lt 0 e && all_passed z.passes v.number v.reading.looked && list_any (may_cut_at z m vs v least e) v.held.nodes
 
--- cut: behind the entry that the least number selects
+-- cut: after the entry that the least number selects
 abbrev pub may_cut : Layout → Memory → List View → View → Word → ℕ → Bool
 may_cut z m vs v (Entry part e) value = is_part Next part && value == 0 && may_cut_by z m vs v v.reading.least e
 may_cut z m vs v _ value = false

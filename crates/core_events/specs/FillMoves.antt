@@ -23,7 +23,7 @@ filled_with fs w x = filled_other w fs ++ record { word = w; value = x } ∷ []
 abbrev pub with_filled : View → List Filled → View
 with_filled v fs = record v { reading = record v.reading { filled = fs } }
 
--- the words of a node but its lock, and those of an entry
+-- the words of a node except its lock, and those of an entry
 abbrev pub node_words : ℕ → List Word
 node_words k =
     Node Key k ∷ Node Val k ∷ Node Mark k ∷ Node (Head Left) k ∷ Node (Head Right) k ∷ Node (Link Left) k ∷ Node (Link Right) k ∷ Node (Tag Left) k ∷ Node (Tag Right) k ∷ []
@@ -34,7 +34,7 @@ entry_words e = Entry Child e ∷ Entry Number e ∷ Entry Next e ∷ []
 abbrev pub zeros_in : List Word → List Filled
 zeros_in ws = map (λ w. record { word = w; value = 0 }) ws
 
--- the words of a word's slot hold 0 where the slot was never used
+-- the words of a word's slot hold 0 if the slot was never used
 abbrev pub zeros_of : Slots → Word → List Filled
 zeros_of unused (Node field k) = cond (has k unused.nodes) (zeros_in (node_words k)) []
 zeros_of unused (Entry part e) = cond (has e unused.entries) (zeros_in (entry_words e)) []
@@ -49,11 +49,11 @@ used_slots _ s = s
 abbrev pub used_view : View → Word → View
 used_view v w = record v { unused = used_slots w v.unused }
 
--- what is known of filled words before a store: of a slot that was never used also that its words hold 0
+-- what is known of filled words before a store: also that the words of a slot that was never used hold 0
 abbrev pub known_before : View → Word → List Filled
 known_before v w = v.reading.filled ++ zeros_of v.unused w
 
--- fill: the slot is used from then on. Inside a section the value is kept with the word, in place of what was put in
--- before; outside one nothing is kept
+-- fill: the slot is used from then on. Inside a section the value is kept with the word, in place of the value put in
+-- before; outside a section nothing is kept
 abbrev pub filled_view : View → Word → ℕ → View
 filled_view v w x = cond (is_even v.section_word) (used_view v w) (with_filled (used_view v w) (filled_with (known_before v w) w x))

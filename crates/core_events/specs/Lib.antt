@@ -1,3 +1,5 @@
+-- The definitions of this crate, by file.
+
 pub mod Tables
 pub mod Needs
 pub mod Moves

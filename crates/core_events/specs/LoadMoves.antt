@@ -22,7 +22,7 @@ use Rattle.key_map.specs.Lists.{has}
 use Rattle.core_events.specs.Moves.{nowhere, longer}
 use Rattle.core_events.specs.Announcing.{has_announced}
 
--- a count rises, but at its last value it stands still
+-- a count rises, but stays at its last value
 abbrev pub risen : ℕ → ℕ
 risen n = cond (n == 18446744073709551615) n (n + 1)
 
@@ -41,13 +41,13 @@ longest vs = longest_from [] vs
 abbrev pub locks : ℕ → List HeldNode → Bool
 locks node hs = list_any (λ (h : HeldNode). h.node == node) hs
 
--- load of the stamp: the seat knows the whole history; where the load fixes a place, the number is kept as the one
--- found, and the look is counted
+-- load of the stamp: the seat knows the whole history; if the load fixes a place, the number is kept as the one found,
+-- and the look is counted
 abbrev pub stamp_history : List Update → SeenHistory → ℕ → Bool → SeenHistory
 stamp_history known h s fixes = record h { seen = known; found = cond fixes s h.found; looks = raised_if fixes h.looks }
 
--- where it has announced, it reads from then on: at this number, of which it has the nodes of the tree, and below which
--- no entry may be cut for it before it has looked at the others; where the load fixes a place, a snapshot is open at it.
+-- if it has announced, it reads from then on: at this number, of which it has the nodes of the tree, and below which no
+-- entry may be cut for it before it has looked at the others; if the load fixes a place, a snapshot is open at it.
 -- Without an announcement it reads nothing
 abbrev pub stamp_reading : Reading → Bool → ℕ → Bool → List TreeNode → Reading
 stamp_reading r announced s fixes nodes =
@@ -75,7 +75,7 @@ has_moved links node side head = list_any (λ (l : Link). l.node == node && same
 abbrev pub with_held : View → List HeldNode → List HeldNext → View
 with_held v nodes nexts = record v { held = record { nodes = nodes; nexts = nexts } }
 
--- where the seat stands, the number of the entry that it left behind for this place, and the links that it remembers
+-- where the seat stands, the number of the entry that it left for this place, and the links that it remembers
 abbrev pub with_place : View → Place → Option ℕ → List Link → View
 with_place v place above links = record v { reading = record v.reading { place = place; above = above; links = links } }
 
@@ -99,7 +99,7 @@ abbrev pub found_at : ℕ → Side → ℕ → HeldNode → HeldNode
 found_at k side e h = cond (h.node == k) (head_found side e h) h
 
 -- load of a head whose entry has this written number: the seat stands at the entry found; a link without an entry is
--- remembered as null, and another entry than the remembered one is counted where this seat did not store it
+-- remembered as null, and an entry other than the remembered one is counted if this seat did not store it
 abbrev pub head_loaded : View → ℕ → Side → ℕ → ℕ → View
 head_loaded v node side head number =
     record (with_place (with_held v (map (found_at node side head) v.held.nodes) v.held.nexts)
@@ -107,7 +107,7 @@ head_loaded v node side head number =
       counts = record v.counts { moves = raised_if (has_moved v.reading.links node side head && not (stored_by v head number)) v.counts.moves };
     }
 
--- the stamp of an entry where the entry is the head
+-- the stamp of an entry if the entry is the head
 abbrev pub stamp_known : ℕ → ℕ → Option LoadedHead → Option LoadedHead
 stamp_known e x None = None
 stamp_known e x (Some l) = Some (cond (l.entry == e) (record { entry = l.entry; stamp = Some x }) l)
@@ -124,26 +124,27 @@ place_known x Nowhere = Nowhere
 place_known x (Node node key) = Node node key
 place_known x (Gap node side) = Gap node side
 
--- the seat watches the bundle in which it stands: it reads at a number, or has locked the node. Else the entry at which it
--- stands may be in no bundle any more
+-- the seat watches the bundle in which it stands: it reads at a number, or has locked the node. Otherwise the entry at
+-- which it stands may be in no bundle any more
 abbrev pub is_watching : View → Place → Bool
 is_watching v (Entry node side entry found) = is_some v.reading.section || locks node v.held.nodes
 is_watching v _ = false
 
--- no number was found, at an entry of a bundle that the seat watches, which it has not pending itself
+-- no number was found, at an entry of a bundle that the seat watches, and the seat does not have the entry pending
+-- itself
 abbrev pub meets_pending : View → ℕ → ℕ → Bool
 meets_pending v e x = x == 0 && not (has e v.update.pending) && is_watching v v.reading.place
 
--- load of a stamp: what was found is kept with the place, and with the heads of locked nodes; an entry that another seat has
--- pending is counted
+-- load of a stamp: what was found is kept with the place, and with the heads of locked nodes; an entry that another
+-- seat has pending is counted
 abbrev pub ts_loaded : View → ℕ → ℕ → View
 ts_loaded v e x =
     record (with_place (with_held v (map (node_known e x) v.held.nodes) v.held.nexts) (place_known x v.reading.place) v.reading.above v.reading.links) {
       counts = record v.counts { waits = raised_if (meets_pending v e x) v.counts.waits };
     }
 
--- the entry is known to be the one that the section number selects: its number was loaded and is at most the
--- seat's, and the seat has not locked the node, so it has passed each entry in front for a greater number
+-- the entry is known to be the one that the section number selects: its number was loaded and is at most the seat's,
+-- and the seat has not locked the node, so it has passed each entry before it because of a greater number
 abbrev pub is_selected : Option ℕ → Option ℕ → Bool → Bool
 is_selected (Some t) (Some x) locked = nat_lt 0 x && nat_le x t && not locked
 is_selected _ _ locked = false
@@ -172,7 +173,8 @@ kept_if b nexts next = cond b (nexts ++ next ∷ []) nexts
 abbrev pub next_nexts : View → ℕ → ℕ → Option ℕ → ℕ → List HeldNext
 next_nexts v node e found next = kept_if (locks node v.held.nodes) v.held.nexts (record { node = node; entry = e; stamp = found; next = next })
 
--- load of a next: the seat stands at the entry behind, and the number found of the entry left is kept; behind the last one the link is remembered as null
+-- load of a next: the seat stands at the next entry, and the number found of the entry left is kept; after the last one
+-- the link is remembered as null
 abbrev pub next_at : View → Place → ℕ → ℕ → View
 next_at v (Entry node side entry found) e next =
     with_place (with_held v v.held.nodes (next_nexts v node e found next)) (Entry node side next None) found

@@ -16,8 +16,8 @@ use Rattle.core_events.specs.Needs.{is_stamp}
 use Rattle.core_events.specs.Announcing.{has_announced}
 use Rattle.core_events.specs.LoadMoves.{is_above, locks}
 
--- load of the stamp: inside a section, and no snapshot is open. The value says whether it fixes a place, which takes an
--- announcement. Which values there are is used by no law; a test alone pins it
+-- load of the stamp: inside a section, and no snapshot is open. The value says whether it fixes a place, which needs an
+-- announcement. No law uses which values there are; only a test checks it
 abbrev pub may_load_stamp : View → Word → ℕ → Bool
 may_load_stamp v w value = is_stamp w && not (is_even v.section_word) && is_none v.reading.opened && (value == 0 || (value == 1 && has_announced v))
 

@@ -19,7 +19,7 @@ use Rattle.core_events.specs.Searches.{search_nodes, key_found}
 abbrev pub nothing_loaded : HeldSide
 nothing_loaded = record { head = None; link = None; tag = None }
 
--- a node that was locked just now: nothing of it has been loaded
+-- a node that has just been locked: nothing of it has been loaded
 abbrev pub just_locked : ℕ → HeldNode
 just_locked k = record { node = k; key = None; val = None; mark = None; left = nothing_loaded; right = nothing_loaded }
 
@@ -29,7 +29,7 @@ abbrev pub place_locked : Option ℕ → ℕ → Place → Place
 place_locked None k (Entry node side entry found) = cond (node == k) (Entry node side 0 None) (Entry node side entry found)
 place_locked _ k p = p
 
--- try lock, where the word was found free
+-- try lock, if the word was found free
 abbrev pub locked_view : View → ℕ → View
 locked_view v k = record v {
   reading = record v.reading { place = place_locked v.reading.section k v.reading.place };
@@ -40,7 +40,7 @@ locked_view v k = record v {
 abbrev pub names_other : ℕ → ℕ → Bool
 names_other own found = not (found == 0) && not (found == own)
 
--- try lock, where the word was found held: a lock of another pass is counted
+-- try lock, if the word was found held: a lock of another pass is counted
 abbrev pub met_lock : View → ℕ → ℕ → View
 met_lock v own found = record v { counts = record v.counts { busy = raised_if (names_other own found) v.counts.busy } }
 
@@ -90,7 +90,7 @@ pair_loaded v f k x = record v {
 abbrev pub with_mark : View → ℕ → ℕ → View
 with_mark v k x = record v { held = record v.held { nodes = map (mark_known k x) v.held.nodes } }
 
--- a mark that is found on the node counts: it is in reach, or one of a search on plain links
+-- a mark that is found on the node counts: the node is reachable, or one of a search on plain links
 abbrev pub may_count : View → ℕ → Bool
 may_count v k = is_reachable v k || has k (search_nodes 0 v.reading)
 

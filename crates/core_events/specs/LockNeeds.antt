@@ -27,8 +27,8 @@ abbrev pub names_pass : Option ℕ → ℕ → Bool
 names_pass None word = false
 names_pass (Some n) word = word == n + 1
 
--- the node's lock may be tried: it is the root, or one at which a search on plain links stands, last turned, or found a link
--- that it remembers
+-- the node's lock may be tried: it is the root, or one at which a search on plain links stands, last turned, or found a
+-- link that it remembers
 abbrev pub may_lock : View → ℕ → Bool
 may_lock v k = k == 0 || has k (search_nodes 0 v.reading)
 
@@ -39,7 +39,8 @@ may_try_lock v (Node field k) value =
     is_lock field && not (is_even v.section_word) && may_lock v k && not (locks k v.held.nodes) && names_pass v.number value
 may_try_lock v _ value = false
 
--- unlock: the seat has locked the node, nothing is pending, and its update has set the node's plain links and raised their tags
+-- unlock: the seat has locked the node, nothing is pending, and its update has set the node's plain links and raised
+-- their tags
 abbrev pub may_unlock : Memory → View → Word → ℕ → Bool
 may_unlock m v (Node field k) value = is_lock field && locks k v.held.nodes && nothing_pending m v && is_done_at k v.update && value == 0
 may_unlock m v _ value = false
@@ -54,7 +55,7 @@ abbrev pub may_mark : View → Word → ℕ → Bool
 may_mark v (Node field k) value = is_mark field && locks k v.held.nodes && has k v.update.taken && value == 1
 may_mark v _ value = false
 
--- load of a key or a value: inside a section. That is used by no law; a test alone pins it
+-- load of a key or a value: inside a section. No law uses that; only a test checks it
 abbrev pub may_load_pair : View → Word → ℕ → Bool
 may_load_pair v (Node field k) value = is_pair field && not (is_even v.section_word) && value == 0
 may_load_pair v _ value = false

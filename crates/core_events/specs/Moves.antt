@@ -16,13 +16,13 @@ nowhere r = record r { place = Nowhere; above = None; links = []; left_turn = No
 abbrev pub in_section : View → ℕ → View
 in_section v word = record v { section_word = word; reading = nowhere v.reading }
 
--- enter: where no batch waits the retired slots become the batch
+-- enter: if no batch waits the retired slots become the batch
 abbrev pub entered : ℕ → View → ℕ → View
 entered passes v word = settled passes (batch_taken (in_section v word))
 
--- leave: what was read is gone, and the snapshot is ended. Nothing is pending, so that the node that the update has
--- brought in is one of the tree like others: outside of a section the view works on it no more, as another update may
--- take it out
+-- leave: what was read is gone, and the snapshot is ended. Nothing is pending, so the node that the update has brought
+-- in is one of the tree like others: outside of a section the view works on it no more, as another update may take it
+-- out
 abbrev pub left : View → ℕ → View
 left v word = record v { section_word = word; reading = no_reading; update = record v.update { added = None } }
 
@@ -57,7 +57,7 @@ history_with own number other = record own {
   ended_places = own.ended_places ++ (other.ended_places ++ own_ended number other.mine);
 }
 
--- a slot may come back with the other view whose words were filled there, so that the view knows of no filled word, and
+-- a slot whose words were filled there may come back with the other view, so the view knows of no filled word, and
 -- counts none of the other view's free slots as one that was never used
 abbrev pub joined_with : View → View → View
 joined_with v other = record v {

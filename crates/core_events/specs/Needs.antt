@@ -29,7 +29,7 @@ is_successor k (Some u) = u.successor == k
 abbrev pub is_marked_out : Memory → Updating → ℕ → Bool
 is_marked_out m u k = is_marked_node m k || is_successor k u.unlinking
 
--- no entry of the view is without a written number, and no node that its update took out is unmarked, but for a
+-- no entry of the view is without a written number, and no node that its update took out is unmarked, except a
 -- successor that is still to be unlinked
 abbrev pub nothing_pending : Memory → View → Bool
 nothing_pending m v = length v.update.pending == 0 && list_all (is_marked_out m v.update) v.update.taken
@@ -64,9 +64,9 @@ may_split v w value = is_stamp w && (value == 0 || (value == 1 && not (length v.
 abbrev pub has_none_waiting : View → Bool
 has_none_waiting v = is_empty v.retired && is_empty v.batch
 
--- join: the other seat was not joined away, and has neither a number nor a slot that waits, or both are outside a section
--- with no lock held. So a seat inside a section gets no node into its retired ones that its search may still reach. That
--- the other one was not joined away is used by no law; a test alone pins it
+-- join: the other seat was not joined away, and has neither a number nor a slot that waits, or both are outside a
+-- section with no lock held. So a seat inside a section gets no node into its retired ones that its search may still
+-- reach. No law uses that the other one was not joined away; only a test checks it
 abbrev pub may_join_view : View → View → Bool
 may_join_view v other = not other.joined && ((is_none other.number && has_none_waiting other) || (is_outside v && is_outside other))
 

@@ -1,5 +1,5 @@
--- The table at the start: all words are 0, each pass has its slots free and unused and its calls left, and behind the
--- passes stands the emptied first view.
+-- The table at the start: all words are 0, each pass has its slots free and unused and its calls left, and the emptied
+-- first view comes after the passes.
 use Rattle.std.specs.Prelude.{◌≡◌, ℕ, zero, suc, ◌+◌, ◌-◌, ◌≤◌, List, [], ◌∷◌, ◌++◌, Some, false, replicate, take, drop, length}
 use Rattle.index_words.specs.declared.layout.Layout.{Layout}
 use Rattle.key_map.specs.declared.pass.PassSize.{PassSize}
@@ -9,7 +9,7 @@ use Rattle.index_words.specs.Views.{empty_view}
 use Rattle.index_words.specs.Words.{word_count}
 use Rattle.core_events.specs.Tables.{Table}
 
--- so many numbers from one on
+-- this many numbers from one on
 abbrev pub from_up : ℕ → ℕ → List ℕ
 from_up first zero = []
 from_up first (suc n) = from_up first n ++ (first + n) ∷ []
@@ -70,7 +70,7 @@ giving z number node entry sizes = record (empty_view z) {
   unused = record { nodes = from_up node (all_nodes sizes); entries = from_up entry (all_entries sizes) };
 }
 
--- the view has this number to give next, and so many calls left
+-- the view has this number to give next, and this many calls left
 pub record MayMake (v : View) (number : ℕ) (size : PassSize) : Type 0 where
   pub live : v.joined ≡ false
   pub rest : List ℕ

@@ -60,7 +60,7 @@ other_links k side us = filter (λ (u : UnsetLink). not (is_link_of k side u)) u
 abbrev pub other_tags : ℕ → Side → List OwedTag → List OwedTag
 other_tags k side os = filter (λ (o : OwedTag). not (is_owed_at k side o)) os
 
--- a successor that was unlinked waits no longer
+-- a successor that was unlinked no longer waits
 abbrev pub still_unlinking : ℕ → Side → Option Unlinking → Option Unlinking
 still_unlinking k side u = cond (unlinks_at k side u) None u
 

@@ -41,7 +41,7 @@ may_load_tag v _ value = false
 abbrev pub is_link_of : ℕ → Side → UnsetLink → Bool
 is_link_of k side u = u.node == k && same_side u.side side
 
--- the update has still to set the link, to this child
+-- the update still has to set the link, to this child
 abbrev pub sets_to : ℕ → Side → ℕ → List UnsetLink → Bool
 sets_to k side child us = list_any (λ (u : UnsetLink). is_link_of k side u && u.child == child) us
 
@@ -50,7 +50,7 @@ abbrev pub unlinks_at : ℕ → Side → Option Unlinking → Bool
 unlinks_at k side None = false
 unlinks_at k side (Some u) = u.parent == k && same_side u.side side
 
--- another link than this one is still to be set
+-- a link other than this one is still to be set
 abbrev pub sets_others : ℕ → Side → List UnsetLink → Bool
 sets_others k side us = list_any (λ (u : UnsetLink). not (is_link_of k side u)) us
 
@@ -63,11 +63,11 @@ abbrev pub may_unlink : Layout → Memory → View → Option Unlinking → Bool
 may_unlink z m v None = true
 may_unlink z m v (Some u) = is_marked_node m u.successor && all_passed z.passes v.number v.update.waiting.passed
 
--- the link is not the one to a successor, or that may be unlinked
+-- the link is not the one to a successor, or the successor may be unlinked
 abbrev pub may_unlink_at : Layout → Memory → View → ℕ → Side → Bool
 may_unlink_at z m v k side = not (unlinks_at k side v.update.unlinking) || may_unlink z m v v.update.unlinking
 
--- set link: the seat has locked the node, nothing is pending, and its update has still to set the link to this child
+-- set link: the seat has locked the node, nothing is pending, and its update still has to set the link to this child
 abbrev pub may_set_field : Layout → Memory → View → Field → ℕ → ℕ → Bool
 may_set_field z m v (Link side) k child =
     locks k v.held.nodes && nothing_pending m v && sets_to k side child v.update.unset && keeps_order k side v.update && may_unlink_at z m v k side
@@ -80,11 +80,11 @@ may_set_link z m v _ child = false
 abbrev pub is_owed_at : ℕ → Side → OwedTag → Bool
 is_owed_at k side o = o.node == k && same_side o.side side
 
--- the update has still to raise the tag
+-- the update still has to raise the tag
 abbrev pub owes : ℕ → Side → List OwedTag → Bool
 owes k side os = list_any (is_owed_at k side) os
 
--- set tag: the seat has locked the node, its update has still to raise the tag, and the value is one more
+-- set tag: the seat has locked the node, its update still has to raise the tag, and the value is one more
 abbrev pub may_raise_tag : Memory → View → Field → ℕ → ℕ → Bool
 may_raise_tag m v (Tag side) k value = locks k v.held.nodes && owes k side v.update.owed && value == m (Node (Tag side) k) + 1
 may_raise_tag m v _ k value = false

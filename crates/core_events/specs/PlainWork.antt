@@ -1,5 +1,6 @@
--- What a raise leaves to be done at plain links. The link at which the search for the key ends leads to another child from
--- then on; and so does the link to the successor of a removed node with two children, where that is not the removed node's.
+-- What remains to be done at plain links after a raise. The link at which the search for the key ends leads to another
+-- child from then on; and so does the link to the successor of a removed node with two children, if the successor is
+-- not a child of the removed node.
 use Rattle.std.specs.Prelude.{ℕ, List, [], ◌∷◌, ◌==◌, Option, Some, None, map, filter}
 use Rattle.index_words.specs.declared.side.Side.{Side}
 use Rattle.index_words.specs.declared.side.Side.TheVariants.{Left, Right}
@@ -36,7 +37,7 @@ first_rest (Branch s key val left right') right = first_rest left right'
 abbrev pub unset_at : Memory → ℕ → Side → ℕ → UnsetLink
 unset_at m k side child = record { node = k; side = side; was = m (Node (Link side) k); child = child }
 
--- the link to the successor, where a node with these two children is removed: none where the successor is near
+-- the link to the successor, if a node with these two children is removed: none if the successor is near
 abbrev pub far_links : Memory → NamedTree → NamedTree → List UnsetLink
 far_links m (Branch s key val left right') (Branch t k v (Branch first k' v' l r) right) =
     unset_at m (first_parent t first l) Left (first_rest l r) ∷ []
@@ -60,7 +61,7 @@ removed_successor (Branch slot key val left right) = far_successor slot left rig
 abbrev pub made_null : List UnsetLink → List OwedTag
 made_null us = map (λ (u : UnsetLink). record { node = u.node; side = u.side }) (filter (λ (u : UnsetLink). u.child == 0) us)
 
--- what the update leaves to be done, where `slot` is the child after it of the link at which the search for its key ends
+-- what the update leaves to be done; `slot` is the child after it of the link at which the search for its key ends
 abbrev pub plain_move : Memory → Change → ℕ → ℕ → NamedTree → PlainMove
 plain_move m (Put val) key slot tree = record {
   unset = unset_at m (end_node key 0 tree) (end_side key Right tree) slot ∷ [];

@@ -1,5 +1,5 @@
--- Searches on plain links: where a search stands, how it turns, and the null links at which it ended. A search begins at the
--- root where the seat stands nowhere, and follows plain links alone: a load of a head ends it.
+-- Searches on plain links: where a search stands, how it turns, and the null links at which it ended. A search begins
+-- at the root if the seat stands nowhere, and follows plain links only: a load of a head ends it.
 use Rattle.std.specs.Prelude.{ℕ, List, [], ◌∷◌, ◌++◌, cond, Bool, true, false, not, nat_lt, ◌==◌, ◌&&◌, Option, Some, None, flat_map}
 use Rattle.std.specs.List.{list_any}
 use Rattle.index_words.specs.declared.side.Side.{Side}
@@ -40,7 +40,8 @@ abbrev pub goes_on_at : Reading → Option ℕ → Bool
 goes_on_at r None = false
 goes_on_at r (Some key) = is_between (turn_key r.right_turn) (turn_key r.left_turn) key
 
--- The search stands where this link begins: at the root, which uses its right link alone, or at a node at which it goes on.
+-- The search stands where this link begins: at the root, which uses its right link alone, or at a node at which it goes
+-- on.
 abbrev pub searches_at : Reading → Place → ℕ → Side → Bool
 searches_at r Nowhere k side = k == 0 && same_side side Right
 searches_at r (AtNode node key) k side = node == k && goes_on_at r key
@@ -68,8 +69,8 @@ place_after k side x = cond (x == 0) (Gap k side) (AtNode x None)
 abbrev pub plain_link : ℕ → Side → ℕ → Option ℕ → Option ℕ → Link
 plain_link k side x above below = record { node = k; side = side; child = x; source = Plain None above below }
 
--- Where the search stands there it goes on by the link, which leads to `x`: the node becomes the turn of that side, and the
--- link is remembered with the turns as they are then.
+-- If the search stands there it goes on by the link, which leads to `x`: the node becomes the turn of that side, and
+-- the link is remembered with the turns as they are then.
 abbrev pub walked : Bool → Reading → ℕ → Side → ℕ → Reading
 walked stands r k side x = record r {
   place = cond stands (place_after k side x) r.place;
@@ -79,8 +80,8 @@ walked stands r k side x = record r {
   right_turn = cond stands (right_turn_after side r) r.right_turn;
 }
 
--- the nodes at which the search stands, last turned, or found a link that it remembers. `top` is the child of the root, at
--- which a search begins
+-- the nodes at which the search stands, last turned, or found a link that it remembers. `top` is the child of the root,
+-- at which a search begins
 abbrev pub place_nodes : ℕ → Place → List ℕ
 place_nodes top Nowhere = top ∷ []
 place_nodes top (AtNode node key) = node ∷ []
@@ -101,7 +102,7 @@ link_nodes l = source_nodes l.node l.source
 abbrev pub search_nodes : ℕ → Reading → List ℕ
 search_nodes top r = place_nodes top r.place ++ (turn_nodes r.left_turn ++ (turn_nodes r.right_turn ++ flat_map link_nodes r.links))
 
--- the tag is kept with a plain link that has none yet
+-- the tag is kept with a plain link that does not have one yet
 abbrev pub tag_found : ℕ → LinkSource → LinkSource
 tag_found x (Bundle entry) = Bundle entry
 tag_found x (Plain None above below) = Plain (Some x) above below

@@ -1,5 +1,5 @@
--- The tree at the stamp, as it is read from the words. In a bundle only the head may be without a number, so
--- the newest entry that has one is the head or the entry behind it.
+-- The tree at the stamp, as it is read from the words. In a bundle only the head may be without a number, so the newest
+-- entry that has one is the head or the entry after it.
 use Rattle.std.specs.Prelude.{ℕ, ◌+◌, zero, suc, List, [], ◌∷◌, cond, nat_lt, nat_le, Bool, not, ◌==◌, ◌&&◌, ◌||◌, is_none}
 use Rattle.std.specs.List.{list_any}
 use Rattle.index_words.specs.declared.layout.Layout.{Layout}
@@ -27,7 +27,7 @@ has_number m vs more e = not (m (Entry Number e) == 0) || was_raised e vs || has
 abbrev pub newest : (ℕ → Bool) → (ℕ → ℕ) → ℕ → ℕ
 newest numbered next head = cond (head == 0 || numbered head) head (next head)
 
--- the child of a link, where the entries of `more` have a number too
+-- the child of a link, if the entries of `more` have a number too
 abbrev pub child_now : Memory → List View → List ℕ → Side → ℕ → ℕ
 child_now m vs more side k =
     child_of_entry (λ e. m (Entry Child e)) (newest (has_number m vs more) (λ e. m (Entry Next e)) (m (Node (Head side) k)))

@@ -47,7 +47,7 @@ abbrev pub is_branch : NamedTree → Bool
 is_branch Null = false
 is_branch (Branch slot key val left right) = true
 
--- a removal is one of a key that is in the tree. That is used by no law; a test alone pins it
+-- a removal is one of a key that is in the tree. No law uses that; only a test checks it
 abbrev pub has_key : Change → ℕ → NamedTree → Bool
 has_key (Put val) key tree = true
 has_key Remove key tree = is_branch (subtree_at key tree)
@@ -70,7 +70,7 @@ abbrev pub node_entries : Layout → Memory → List ℕ → List ℕ
 node_entries z m [] = []
 node_entries z m (k ∷ ks) = (bundle_now z m Left k ++ bundle_now z m Right k) ++ node_entries z m ks
 
--- the child, after the raise, of the link at which the search for the key ends: where there is a new node, its slot
+-- the child, after the raise, of the link at which the search for the key ends: if there is a new node, its slot
 abbrev pub new_slot : Memory → List View → View → ℕ → NamedTree → ℕ
 new_slot m vs v key tree = child_now m vs v.update.pending (end_side key Right tree) (end_node key 0 tree)
 
@@ -120,8 +120,8 @@ abbrev pub inserts : Change → ℕ → NamedTree → Bool
 inserts (Put val) key tree = not (is_branch (subtree_at key tree))
 inserts Remove key tree = false
 
--- the plain link is null, and a search of the seat found it so, with the tag that it has, and with the key between the
--- turns' keys
+-- the plain link is null, and a search of the seat found it null, with the tag that it has, and with the key between
+-- the turns' keys
 abbrev pub has_gap : Memory → View → ℕ → ℕ → Side → Bool
 has_gap m v key k side = m (Node (Link side) k) == 0 && list_any (is_gap_link k side key (m (Node (Tag side) k))) v.reading.links
 

@@ -39,8 +39,8 @@ IsNullAtBoth child b t s side k =
     (select b.number t (b.bundle side k) ≡ select b.number s (b.bundle side k))
     × (child_of_entry child (select b.number t (b.bundle side k)) ≡ 0)
 
--- a seat that reads at `t` has the nodes of the tree at `t`. A null link of a node of that tree whose entry is
--- still the selected one at the stamp `s` has as wide a gap in the tree at `s`, or a wider one
+-- a seat that reads at `t` has the nodes of the tree at `t`. A null link of a node of that tree whose entry is still
+-- the selected one at the stamp `s` has as wide a gap in the tree at `s`, or a wider one
 pub record ReadsVersion (key val child : ℕ → ℕ) (b : Bundles) (updates : List Update) (s : ℕ) (now : NamedTree) (t : ℕ) (nodes : List TreeNode) : Type 0 where
   pub tree : NamedTree
   pub version : IsVersion key val child b updates t tree

@@ -1,7 +1,7 @@
--- The wait of a removal. Where the successor of a removed node with two children hangs further down, its copy is linked
--- first. The successor stays where it is until every other pass has been outside a section since: one that was on its
--- way to it still finds it. The update waits for that outside of a section itself, with two locks held, the successor's
--- and its parent's.
+-- The wait of a removal. If the successor of a removed node with two children is not its right child, its copy is
+-- linked first. The successor stays where it is until every other pass has been outside a section since: a pass that
+-- was on its way to it still finds it. The update waits for that outside of a section itself, with two locks held, the
+-- successor's and its parent's.
 use Rattle.std.specs.Prelude.{ℕ, List, length, cond, Bool, false, not, ◌==◌, ◌&&◌, ◌||◌, Option, Some, None, is_some}
 use Rattle.std.specs.List.{list_all}
 use Rattle.index_words.specs.declared.view.View.{View}
@@ -34,14 +34,14 @@ is_waiting v = is_waiting_for v.update v.held.nodes v.update.unlinking
 abbrev pub has_no_lock : View → Bool
 has_no_lock v = length v.held.nodes == 0
 
--- leave: inside a section, nothing pending, and no lock held but at the wait. With no lock held nothing is pending
--- under the rule, so that this part refuses nothing more then
+-- leave: inside a section, nothing pending, and no lock held except at the wait. With no lock held nothing is pending
+-- under the rule, so that this part then refuses nothing more
 abbrev pub may_leave : Memory → View → Word → ℕ → Bool
 may_leave m v w value =
     is_own_section v.number w && not (is_even v.section_word) && (has_no_lock v || is_waiting v) && nothing_pending m v && value == left_word v.section_word
 
--- what a look is for: with no lock held for retired slots or a batch, with locks for the wait. That there are such
--- slots is used by no law; a test alone pins it
+-- what a look is for: if no lock is held, retired slots or a batch; if locks are held, the wait. No law uses that there
+-- are such slots; only a test checks it
 abbrev pub has_to_look : View → Bool
 has_to_look v = cond (has_no_lock v) (not (is_empty v.batch && is_empty v.retired)) (is_waiting v)
 
@@ -53,8 +53,7 @@ abbrev pub may_look : View → Word → ℕ → Bool
 may_look v (Section pass) value = may_look_at v pass value
 may_look v _ value = false
 
--- a look at the wait: the pass is passed or its word is noted in the update, and neither is a batch taken nor does one
--- become free
+-- a look at the wait: the pass is passed or its word is noted in the update; no batch is taken, and none becomes free
 abbrev pub looked_waiting : View → ℕ → ℕ → View
 looked_waiting v pass word = record v { update = record v.update { waiting = looked_at v.update.waiting pass word } }
 

@@ -3,7 +3,8 @@ use Rattle.std.specs.Prelude.{ℕ, ◌+◌, List, cond, slice_set, slice_index, 
 use Rattle.core_events.specs.declared.event.Kind.{Kind}
 use Rattle.core_events.specs.declared.event.Kind.TheVariants.{MakeSeat, SplitSeat, JoinSeat, LookSec, LoadStamp, LoadHead, LoadTs, LoadPtr, LoadNext, Raise, TryLock, LoadMark, LoadKeyOrVal, LookAnn, LoadLink, LoadTag}
 
--- an event leaves its word, puts its value there, adds one, puts its value where it holds 0, or moves seats and no word
+-- an event leaves its word, puts its value there, adds one, puts its value there if the word holds 0, or moves seats
+-- and no word
 pub data Move : Type 0 where
   Load : Move
   Store : Move

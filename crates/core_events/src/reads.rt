@@ -9,7 +9,7 @@ ghost use Rattle.core_events.specs.LoadMoves.{locks, is_above_at, is_above as ab
 
 use index_words::{Field, HeldNode, Layout, Part, TreeNode, View, Word};
 
-/// What a word holds, and 0 for a word that is not there.
+/// What a word holds, and 0 for a word that the table does not have.
 pub fn held(layout: &Layout, words: &[u64], word: Word) -> u64
     ensures { result ≡ memory layout.now words.now word }
 {
@@ -22,7 +22,7 @@ pub fn held(layout: &Layout, words: &[u64], word: Word) -> u64
         .unwrap_or(0)
 }
 
-/// The written number of an entry, and 0 for an entry that is not there.
+/// The written number of an entry, and 0 for an entry that the table does not have.
 pub fn number_of(layout: &Layout, words: &[u64], entry: u64) -> u64
     ensures { result ≡ memory layout.now words.now (EntryWord Number entry) }
 {

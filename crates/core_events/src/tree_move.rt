@@ -1,14 +1,15 @@
+// What a raise moves, and what an update still has to do after it.
 use index_words::{Items, OwedTag, Unlinking, UnsetLink};
 use std::alloc::Global;
 
-/// What an update has still to do at plain links, from its raise on.
+/// What an update still has to do at plain links, from its raise on.
 #[derive(Drop)]
 pub struct PlainMove {
     /// The plain links to be set.
     pub unset: Items<UnsetLink>,
     /// The links whose tags are to be raised.
     pub owed: Items<OwedTag>,
-    /// The successor that is to be unlinked behind a wait.
+    /// The successor that is to be unlinked after a wait.
     pub unlinking: Option<Unlinking>,
 }
 
@@ -28,7 +29,7 @@ impl PlainMove {
     }
 }
 
-/// What a raise moves, beside the number of its entries. Contracts of crates above name it.
+/// What a raise moves, apart from the number of its entries. Contracts of crates above name it.
 #[derive(Drop)]
 pub struct TreeMove {
     /// The node that the update brings in.
@@ -39,6 +40,6 @@ pub struct TreeMove {
     pub taken: Items<u32>,
     /// The entries of their bundles.
     pub taken_entries: Items<u32>,
-    /// What it leaves to be done at plain links.
+    /// What remains to be done at plain links.
     pub plain: PlainMove,
 }

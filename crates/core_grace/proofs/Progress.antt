@@ -10,7 +10,7 @@ own_or_passed : (a b r : Bool) → (a ≡ false → b ≡ true) → r ≡ true �
 own_or_passed true b r passed rest = rest
 own_or_passed false b r passed rest = ap (λ c. c && r) (passed refl) ∙ rest
 
--- where every other pass was passed, the test says so
+-- if every other pass was passed, the test says so
 pub passed_all : (passes : ℕ) (number : Option ℕ) (passed : List ℕ) → PassedOthers passes number passed → all_passed passes number passed ≡ true
 passed_all zero number passed others = refl
 passed_all (suc n) number passed others =

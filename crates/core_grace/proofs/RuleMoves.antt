@@ -23,7 +23,7 @@ pub every_weaker : {X : Type 0} (P Q : X → Type 0) (xs : List X) → ((x : X) 
 every_weaker P Q [] step all = tt
 every_weaker P Q (x ∷ xs) step all = (step x all.0, every_weaker P Q xs step all.1)
 
--- a list in which nothing stands
+-- a list in which no number occurs
 abbrev pub no_batch : Slots → Type 0
 no_batch s = ((k : ℕ) → count k s.nodes ≡ 0) × ((e : ℕ) → count e s.entries ≡ 0)
 
@@ -51,14 +51,14 @@ passed_step n j a b c r low done mine this rest =
       | inr other ↦ let differs : n ≡ j → ⊥ = other.1 in rest (omega (arith, differs)) parts.1
     ]
 
--- where every pass is this one or was passed, each other one was passed
+-- if every pass is this one or was passed, each other one was passed
 pub all_passed-has : (passes n : ℕ) (number : Option ℕ) (passed : List ℕ) → all_passed passes number passed ≡ true → n < passes → is_number n number ≡ false → has n passed ≡ true
 all_passed-has zero n number passed done low other = absurd (omega arith)
 all_passed-has (suc j) n number passed done low other =
     passed_step n j (is_number j number) (has j passed) (has n passed) (all_passed j number passed) low done
     (λ e. subst (λ x. is_number x number ≡ false) e other) (λ e. ap (λ x. has x passed) (sym e)) (λ lower rest. all_passed-has j n number passed rest lower other)
 
--- a look, by what it finds: passed before, or let pass now
+-- a look, by what it finds: the pass was passed before, or is passed now
 abbrev pub looked_by : Looks → ℕ → ℕ → Bool → Bool → Looks
 looked_by g pass word a b =
     cond a g (cond b (record g { passed = g.passed ++ pass ∷ [] }) (record g { found = g.found ++ record { pass = pass; word = word } ∷ [] }))
@@ -105,7 +105,7 @@ own_freed pick k v w none sum free retired batch =
     (omega (arith, f, as_often pick k w.retired v.retired retired, as_often pick k w.batch no_slots batch), omega (arith, f))
 
 module _ (z : Layout) (linked : Linked) (hn he : View → ℕ → Type 0) where
-  -- a view that has moved holds no more than before, but for what the tree links
+  -- a view that has moved holds no more than before, apart from what the tree links
   pub record HoldsFrom (v w : View) : Type 0 where
     pub nodes : (k : ℕ) → hn w k → hn v k ⊎ (0 < linked.nodes k)
     pub entries : (e : ℕ) → he w e → he v e ⊎ (0 < linked.entries e)
@@ -115,7 +115,7 @@ module _ (z : Layout) (linked : Linked) (hn he : View → ℕ → Type 0) where
     pub nodes : (k : ℕ) → hn w k → 0 < linked.nodes k
     pub entries : (e : ℕ) → he w e → 0 < linked.entries e
 
-  -- the same number, and either the same section word, or only what the tree links is held
+  -- the same number, and either the same section word, or nothing is held except what the tree links
   pub record KeepsSection (v w : View) : Type 0 where
     pub number : w.number ≡ v.number
     pub section : (w.section_word ≡ v.section_word) ⊎ HoldsLinked w
@@ -185,7 +185,7 @@ module _ (z : Layout) (linked : Linked) (hn he : View → ℕ → Type 0) where
       (λ u beside right. column u (batch_unlinked vs beside.place u beside.at rule) right)
       (λ t u beside other right. right)
 
-  -- a move that leaves the lists of slots as they are
+  -- a move that leaves the lists of slots unchanged
   pub quiet : (vs : List View) (i : ℕ) (v w : View) → IsItem vs i v → SlotRule z linked hn he vs
       → w.free ≡ v.free → w.retired ≡ v.retired → w.batch ≡ v.batch
       → HoldsFrom v w → KeepsSection v w

@@ -26,7 +26,7 @@ module _ (pick : Slots → List ℕ) (size : ℕ) (l : ℕ → ℕ) (h : View �
   pub free-le-own : (k : ℕ) → sum_by (own_free pick k) vs ≤ sum_by (own pick k) vs
   free-le-own k = sum_by-le-sum_by (own_free pick k) (own pick k) vs (λ v. omega arith)
 
-  -- where the lists of the moved view keep their counts
+  -- if the lists of the moved view keep their counts
   pub slots_moved : (i : ℕ) (v w : View) → IsItem vs i v → SlotsRight pick size l h vs
       → ((k : ℕ) → own pick k w ≡ own pick k v) → ((k : ℕ) → own_free pick k w ≡ own_free pick k v)
       → ((k : ℕ) → h w k → h v k ⊎ (0 < l k))
@@ -44,7 +44,7 @@ module _ (pick : Slots → List ℕ) (size : ℕ) (l : ℕ → ℕ) (h : View �
         unheld = all_moved Unheld Unheld' vs i v w at right.unheld moved (λ u beside of k holds. sums k ∙ of k holds);
       }
 
-  -- where the moved view sets free what nobody holds
+  -- if the moved view sets free what nobody holds
   pub slots_freed : (i : ℕ) (v w : View) → IsItem vs i v → SlotsRight pick size l h vs
       → ((k : ℕ) → own pick k w ≡ own pick k v)
       → (freed : ℕ → ℕ) → ((k : ℕ) → own_free pick k w ≡ own_free pick k v + freed k)

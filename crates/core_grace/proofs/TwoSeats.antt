@@ -56,8 +56,8 @@ own_joined pick k v u w y none frees retireds batches free retired batch no_free
       as_often pick k y.batch no_slots no_batch,
     )
 
--- the views of `vs` after a change, whose free slots are those of before in all, and each of which holds
--- no more than a view of before
+-- the views of `vs` after a change: their free slots are in total those of before, and each of them holds no more than
+-- a view of before
 module _ (pick : Slots → List ℕ) (size : ℕ) (l : ℕ → ℕ) (h : View → ℕ → Type 0) (vs ws : List View) where
   abbrev pub Unheld : View → Type 0
   Unheld u = (k : ℕ) → h u k → sum_by (own_free pick k) vs ≡ 0
@@ -77,7 +77,7 @@ module _ (z : Layout) (linked : Linked) (hn he : View → ℕ → Type 0) where
   abbrev pub Keeps : View → Type 0
   Keeps v = KeepsEntries linked.entries_of v.retired × KeepsEntries linked.entries_of v.batch
 
-  -- of a view that holds nothing each batch is free
+  -- each batch of a view that holds nothing is free
   pub bare_column : (u v : View) → ((k : ℕ) → hn v k → ⊥) → ((e : ℕ) → he v e → ⊥) → G u v
   bare_column u v nodes entries = record {
     passed = every_all (λ n. v.number ≡ Some n → HoldsNone hn he u.batch v) u.grace.passed (λ n is. record { nodes = λ k some. nodes k; entries = λ e some. entries e });
@@ -174,8 +174,8 @@ module _ (z : Layout) (linked : Linked) (hn he : View → ℕ → Type 0) where
         | inr none ↦ omega (arith, count-append e s.entries t.entries, in_t k e (omega (arith, count-append k s.nodes t.nodes)) of)
       ]
 
-  -- a seat is joined into another one, which owns the slots of both: what the other retired or had in its
-  -- batch is retired again
+  -- a seat is joined into another one, which owns the slots of both: what the other had retired or in its batch is
+  -- retired again
   pub join_slots : (vs : List View) (i j : ℕ) (v u w y : View) → IsItem vs i v → IsItem vs j u → (j ≡ i → ⊥) → SlotRule z linked hn he vs → Stays v w → IsBare y
       → w.free ≡ both v.free u.free → w.retired ≡ both v.retired (both u.retired u.batch)
       → y.free ≡ no_slots → y.retired ≡ no_slots → y.batch ≡ no_slots

@@ -16,7 +16,7 @@ is_empty s = length s.nodes == 0 && length s.entries == 0
 abbrev pub both : Slots → Slots → Slots
 both s t = record { nodes = s.nodes ++ t.nodes; entries = s.entries ++ t.entries }
 
--- where no batch waits, the retired slots become the batch, and no pass is passed
+-- if no batch waits, the retired slots become the batch, and no pass is passed
 abbrev pub batch_taken : View → View
 batch_taken v = cond (is_empty v.batch) (record v { retired = no_slots; batch = v.retired; grace = no_looks }) v
 
@@ -24,7 +24,7 @@ batch_taken v = cond (is_empty v.batch) (record v { retired = no_slots; batch = 
 abbrev pub first_found : ℕ → List SectionFound → Option ℕ
 first_found pass fs = option_map (λ (f : SectionFound). f.word) (find (λ (f : SectionFound). f.pass == pass) fs)
 
--- whether a pass may be passed whose section word is `word` and was `first`, where it was found before
+-- whether a pass may be passed whose section word is `word` and was `first`, if it was found before
 abbrev pub lets_pass : Option ℕ → ℕ → Bool
 lets_pass None word = is_even word
 lets_pass (Some first) word = has_passed first word
@@ -60,7 +60,7 @@ apart_from out s = record { nodes = filter (λ k. not (has k out.nodes)) s.nodes
 abbrev pub batch_freed : View → View
 batch_freed v = record v { free = both v.free v.batch; batch = no_slots; grace = no_looks; unused = apart_from v.batch v.unused }
 
--- where every other pass is passed the batch becomes free
+-- if every other pass is passed the batch becomes free
 abbrev pub settled : ℕ → View → View
 settled passes v = cond (all_passed passes v.number v.grace.passed) (batch_freed v) v
 

@@ -17,13 +17,13 @@ pub record Bundles : Type 0 where
 abbrev pub entries_of : Bundles → ℕ → List ℕ
 entries_of b k = b.bundle Left k ++ b.bundle Right k
 
--- how often an entry stands in the bundles of these nodes
+-- how often an entry occurs in the bundles of these nodes
 abbrev pub linked_in : Bundles → ℕ → List ℕ → ℕ
 linked_in b e [] = 0
 linked_in b e (k ∷ ks) = count e (entries_of b k) + linked_in b e ks
 
--- what a reader at `t` may be looking at: the entries down to the first one whose number is at most `t`,
--- or all where there is none
+-- what a reader at `t` may be looking at: the entries down to the first one whose number is at most `t`, or all if
+-- there is none
 abbrev pub read_at : (ℕ → ℕ) → ℕ → List ℕ → List ℕ
 read_at number t [] = []
 read_at number t (e ∷ es) = e ∷ cond (nat_le (number e) t) [] (read_at number t es)
@@ -42,8 +42,7 @@ listed (Some k) = k ∷ []
 abbrev pub work_nodes : View → List ℕ
 work_nodes v = held_slots v.held.nodes ++ listed v.update.added
 
--- the nodes of the tree at its section number, and those that it works on. It holds the root too, which is
--- no slot
+-- the nodes of the tree at its section number, and those that it works on. It also holds the root, which is no slot
 abbrev pub held_nodes : View → List ℕ
 held_nodes v = tree_slots v.reading.tree ++ work_nodes v
 

@@ -1,3 +1,5 @@
+-- The definitions of this crate, by file.
+
 pub mod Sections
 pub mod Batches
 pub mod Holds

@@ -20,7 +20,7 @@ own pick k v = count k (pick v.free) + (count k (pick v.retired) + count k (pick
 abbrev pub own_free : (Slots → List ℕ) → ℕ → View → ℕ
 own_free pick k v = count k (pick v.free)
 
--- 1 for a slot of a table with so many, 0 for another number
+-- 1 for a slot of a table with this many slots, 0 for another number
 abbrev pub is_slot : ℕ → ℕ → ℕ
 is_slot size k = cond (nat_lt 0 k && nat_le k size) 1 0
 
@@ -40,7 +40,7 @@ pub record GraceRight (holds_node holds_entry : View → ℕ → Type 0) (v w : 
   pub passed : Every (λ n. w.number ≡ Some n → HoldsNone holds_node holds_entry v.batch w) v.grace.passed
   pub found : Every (λ (f : SectionFound). w.number ≡ Some f.pass → w.section_word ≢ f.word → HoldsNone holds_node holds_entry v.batch w) v.grace.found
 
--- with a node all entries of its bundles are in the list
+-- all entries of a node's bundles are in the list if the node is
 abbrev pub KeepsEntries : (ℕ → List ℕ) → Slots → Type 0
 KeepsEntries entries_of s = (k e : ℕ) → 0 < count k s.nodes → 0 < count e (entries_of k) → 0 < count e s.entries
 

@@ -1,3 +1,4 @@
+// The moves of a view's batch of retired slots.
 ghost use Rattle.std.specs.Prelude.{◌≡◌, ℕ, OnOk, OnErr, IfOk, Option, not, filter};
 ghost use Rattle.key_map.specs.Lists.{has};
 ghost use Rattle.core_grace.specs.Batches.{batch_taken, first_found, lets_pass, looked_at, is_number, all_passed, apart_from, settled};
@@ -38,7 +39,7 @@ pub fn is_own(number: Option<u32>, pass: u32) -> bool
     number == Some(pass)
 }
 
-/// Whether each of the first `passes` but this one is among these.
+/// Whether each of the first `passes` except this one is among these.
 pub fn has_all_others(passes: u32, number: Option<u32>, passed: &[u32]) -> bool
     ensures { result ≡ all_passed passes number passed.now }
 {
@@ -61,7 +62,7 @@ pub fn current_looks(alloc: Global, view: &View) -> Result<Looks, NoMemory>
     Ok(Looks { found, passed })
 }
 
-/// Adds a look that found `word` as the section word of `pass`. After a refusal the looks are unchanged.
+/// Adds a look that found `word` as the section word of `pass`. If memory is refused the looks are unchanged.
 pub fn look_at(looks: &mut Looks, pass: u32, word: u64) -> Result<(), NoMemory>
     ensures ok { OnOk result (looks.new ≡ looked_at looks.old pass word) }
     ensures err { OnErr result (looks.new ≡ looks.old) }
@@ -90,7 +91,7 @@ fn drop_from(alloc: Global, slots: &mut Items<u32>, out: &[u32])
     *slots = Items::from_vec(kept);
 }
 
-/// Takes these slots out of the list.
+/// Removes these slots from the list.
 pub fn drop_slots(alloc: Global, slots: &mut Slots, out: &Slots)
     ensures { slots.new ≡ apart_from out.now slots.old }
 {
@@ -123,8 +124,8 @@ fn take_or_free(alloc: Global, view: &mut View, looks: Looks, passes: u32) -> Re
     Ok(())
 }
 
-/// Where no batch waits, takes the retired slots as the batch. The looks become these, and where they
-/// have passed every other of the `passes` the batch becomes free. After a refusal the view is unchanged.
+/// If no batch waits, takes the retired slots as the batch. The looks become these, and if they have passed every other
+/// of the `passes` the batch becomes free. If memory is refused the view is unchanged.
 pub fn settle(alloc: Global, view: &mut View, looks: Looks, passes: u32) -> Result<(), NoMemory>
     ensures ok { OnOk result (view.new ≡ settled passes (record (batch_taken view.old) { grace = looks })) }
     ensures frees { OnOk result (SettlesRight passes (record (batch_taken view.old) { grace = looks }) view.new) }

@@ -1,4 +1,4 @@
--- What a seat knows that stands at an entry: the entry is in the bundle, and its number, and what is selected.
+-- What a seat that stands at an entry knows: the entry is in the bundle, and its number, and what is selected.
 use Rattle.std.proofs.Common.{◌≡◌, ℕ, suc, ◌<◌, ◌≤◌, ◌⊎◌, cond, List, [], ◌∷◌, ◌++◌, Bool, true, false, eqb, ltb, leb, ◌&&◌, ◌||◌, not, is_none, is_some, arith, refl, ap, ◌∙◌, sym, subst, inl, inr, Option, Some, None}
 use Rattle.std.specs.Prelude.{IfSome}
 use Rattle.std.proofs.lemmas.Bool.{eqb-true, and_parts}
@@ -30,17 +30,17 @@ use Rattle.core_invariant.proofs.OneView.{seat_at}
 use Rattle.core_invariant.proofs.Owned.{reachable_live}
 use Rattle.core_invariant.proofs.HeldFacts.{count-locks}
 
--- each entry in front is passed
+-- each entry before it is passed
 pub select_past : (number : ℕ → ℕ) (t : ℕ) (front es : List ℕ) → Every (λ d. t < number d) front → select number t (front ++ es) ≡ select number t es
 select_past number t [] es above = refl
 select_past number t (d ∷ front) es above = select-behind number t d (front ++ es) above.0 ∙ select_past number t front es above.1
 
--- behind an entry of a chain its next follows
+-- after an entry of a chain comes its next
 pub chain_behind : (next : ℕ → ℕ) (head e : ℕ) (front back : List ℕ) → IsChain next head (front ++ e ∷ back) → IsChain next (next e) back
 chain_behind next head e [] back chain = chain.2
 chain_behind next head e (d ∷ front) back chain = chain_behind next (next d) e front back chain.2
 
--- the numbers in front of an entry are greater
+-- the numbers before an entry are greater
 pub front_above : (number : ℕ → ℕ) (top e : ℕ) (front back : List ℕ) → Falls number top (front ++ e ∷ back) → (number e < top) × Every (λ d. number e < number d) front
 front_above number top e [] back falls = (falls.0, tt)
 front_above number top e (d ∷ front) back falls =
@@ -164,7 +164,7 @@ module _ (z : Layout) (m : Memory) (vs : List View) (g : Meaning) (rule : Rule z
   pub above_is : is_above v e found ≡ true → IfSome v.reading.section (λ t. t < g.bundles.number e)
   above_is is = above_by v.reading.section found (has e v.update.pending && is_none v.update.raised) unnumbered_is is refl refl seat.version.past
 
-  -- behind the last entry, which is above the section number, none is selected
+  -- after the last entry, which is above the section number, none is selected
   pub last_by : (o : Option ℕ) → v.reading.section ≡ o → m (Entry Next e) ≡ 0 → IfSome o (λ t. t < g.bundles.number e) → IfSome o (λ t. select g.bundles.number t es ≡ 0)
   last_by None section none above = tt
   last_by (Some t) section none above =

@@ -1,4 +1,4 @@
--- One bundle, where what it reads stays the same at its entries.
+-- One bundle, if what it reads stays the same at its entries.
 use Rattle.std.proofs.Common.{◌≡◌, ℕ, ◌+◌, ◌<◌, ◌≤◌, ◌⊎◌, List, [], ◌∷◌, eqb, arith, refl, ◌∙◌, sym, subst, inl, inr}
 use Rattle.std.proofs.lemmas.Bool.Decides.{eqb_tells}
 use Rattle.std.specs.List.{AllByRecursion}
@@ -86,14 +86,14 @@ chain_some next head e (d ∷ es) chain here =
       | inr other ↦ chain_some next (next d) e es chain.2 (not_counted (eqb d e) (count e es) other.0 here)
     ]
 
--- the numbers fall where they stay the same at the bundle's entries
+-- the numbers fall if they stay the same at the bundle's entries
 pub falls_frame : (number number' : ℕ → ℕ) (top : ℕ) (es : List ℕ) → ((d : ℕ) → 0 < count d es → number' d ≡ number d) → Falls number top es → Falls number' top es
 falls_frame number number' top [] same right = tt
 falls_frame number number' top (e ∷ es) same right =
     let here : number' e ≡ number e = same e (one_counted e (count e es)) in
     (omega (arith, here, right.0), subst (λ n. Falls number' n es) (sym here) (falls_frame number number' (number e) es (λ d within. same d (omega (arith, within))) right.1))
 
--- a whole bundle has written numbers where its head has one
+-- a whole bundle has written numbers if its head has one
 pub all_written : (next stamp : ℕ → ℕ) (head : ℕ) (es : List ℕ) → IsChain next head es → TailWritten stamp es → (head ≡ 0) ⊎ (0 < stamp head) → Every (λ d. 0 < stamp d) es
 all_written next stamp head [] chain tail old = tt
 all_written next stamp head (e ∷ es) chain tail old = (

@@ -1,5 +1,5 @@
--- The links of a tree with the children to which they lead, and what an update leaves of them: all but the link at which its
--- search ends, the link to the successor of a removed node, and those of a new node.
+-- The links of a tree with the children to which they lead, and which of them an update keeps: all but the link at
+-- which its search ends, the link to the successor of a removed node, and those of a new node.
 use Rattle.std.proofs.Common.{◌≡◌, ℕ, ◌+◌, ◌<◌, ◌≤◌, ◌⊎◌, cond, Bool, true, false, eqb, ltb, arith, refl, ap, ◌∙◌, sym, subst, inl, inr}
 use Rattle.std.proofs.lemmas.Bool.Decides.{nat_tests, eqb_tells}
 use Rattle.index_words.specs.declared.side.Side.{Side}
@@ -79,7 +79,7 @@ leads_link root top (Branch s key val l r) k side c (inr (inr right)) =
       | inr there ↦ inr (omega (arith, there))
     ]
 
--- what a change at the link at which a search ends leaves: the links outside of the changed subtree
+-- what a change at the link at which a search ends keeps: the links outside of the changed subtree
 abbrev pub Changed : ℕ → (NamedTree → NamedTree) → ℕ → Side → ℕ → ℕ → Side → NamedTree → Type 0
 Changed key f k side c n w t =
     IsChildAt n w (update key f t) k side c → IsChildAt n w t k side c ⊎ IsChildAt (end_node key n t) (end_side key w t) (f (subtree_at key t)) k side c
@@ -143,7 +143,8 @@ subtree_child key root top (Branch s kk v l r) k side c is =
     by lefts rights false true is = inr (inr (rights is))
     by lefts rights false false is = is
 
--- the node at whose link a search ends is the one at which the tree hangs, or is in the tree outside of the subtree at that link
+-- the node at whose link a search ends is the one at which the tree hangs, or is in the tree outside of the subtree at
+-- that link
 abbrev pub Outside : ℕ → ℕ → NamedTree → Type 0
 Outside key n t = occurs (end_node key n t) (subtree_at key t) + 1 ≤ one_at (end_node key n t) n + occurs (end_node key n t) t
 

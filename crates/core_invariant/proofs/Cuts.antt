@@ -46,8 +46,8 @@ use Rattle.core_invariant.proofs.TreeNow.{entries_are, bundle_few}
 use Rattle.core_invariant.proofs.AtEntries.{chain_behind}
 use Rattle.core_invariant.proofs.LinkLaw.{selection_is}
 
--- the entry stands in a bundle of a linked node that the view has locked, its number is at most the stamp and each section
--- number, and what stands behind it is what a cut takes
+-- the entry stands in a bundle of a linked node that the view has locked, its number is at most the stamp and each
+-- section number, and what comes after it is what a cut takes
 pub record IsCutAt (z : Layout) (m : Memory) (vs : List View) (g : Meaning) (v : View) (e : ℕ) : Type 0 where
   pub node : ℕ
   pub side : Side
@@ -62,7 +62,7 @@ pub record IsCutAt (z : Layout) (m : Memory) (vs : List View) (g : Meaning) (v :
   pub past : g.bundles.number e ≤ m Stamp
   pub read : All (ReadsFrom (g.bundles.number e)) vs
 
--- a locked node that passes a test, beside what is known of each
+-- a locked node that passes a test, besides what is known of each
 record Passes (P : HeldNode → Type 0) (test : HeldNode → Bool) (hs : List HeldNode) : Type 0 where
   node : HeldNode
   known : P node

@@ -1,4 +1,4 @@
--- Numbers fall along a bundle: behind an entry whose number was found stands one whose number is written, and below it.
+-- Numbers fall along a bundle: after an entry whose number was found comes one whose number is written, and lower.
 use Rattle.std.proofs.Common.{◌≡◌, ℕ, suc, ◌<◌, List, [], ◌∷◌, ◌++◌, arith, sym, subst, Option, Some}
 use Rattle.std.specs.Prelude.{IfSome}
 use Rattle.key_map.specs.Lists.{Every, IsItem}
@@ -28,7 +28,7 @@ falls_behind : (number : ℕ → ℕ) (top : ℕ) (front : List ℕ) (e d : ℕ)
 falls_behind number top [] e d back falls = falls.1.0
 falls_behind number top (f ∷ front) e d back falls = falls_behind number (number f) front e d back falls.1
 
--- the number of the entry behind one whose number was found
+-- the number of the entry after one whose number was found
 module _ (z : Layout) (m : Memory) (vs : List View) (g : Meaning) (rule : Rule z m vs g) (i : ℕ) (v : View) (at : IsItem vs i v) (node : ℕ) (side : Side) (e : ℕ) (found : Option ℕ) (here : v.reading.place ≡ AtEntry node side e found) (some : 0 < e) (watched : IsWatched v node) (x : ℕ) (known : found ≡ Some x) (above : 0 < x) where
   pub next_falls : 0 < m (Entry Next e) → (0 < m (Entry Number (m (Entry Next e)))) × (m (Entry Number (m (Entry Next e))) < x)
   next_falls more =

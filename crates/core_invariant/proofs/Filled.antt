@@ -1,4 +1,4 @@
--- What a seat has filled stays where a store is to another word than one of its own slots.
+-- What a seat has filled stays if a store is to a word other than those of its own slots.
 use Rattle.std.proofs.Common.{◌≡◌, ℕ, ◌<◌, cond, List, [], ◌∷◌, Bool, true, false, eqb, ◌&&◌, not, refl, ap, ◌∙◌, subst, inl, inr}
 use Rattle.std.proofs.lemmas.Bool.{eq-eqb, ne_eqb}
 use Rattle.index_words.specs.declared.view.slots.Slots.{Slots}
@@ -31,7 +31,7 @@ pub entry_other : (m : Memory) (p q : Part) (e d x : ℕ) → (d ≡ e → ⊥) 
 entry_other m p q e d x other =
     ap (λ b. cond (same_part q p && b) x (m (Entry q d))) (ne_eqb d e other) ∙ ap (λ b. cond b x (m (Entry q d))) (and_false (same_part q p))
 
--- what was filled is right over another memory and other slots, where these have no other word
+-- what was filled is right over another memory and other slots, if these have no other word
 pub every_filled : (m m' : Memory) (free free' : Slots) (u u' : Updating) (fs : List Filled)
     → ((w : Word) → IsOwnSlotWord free' u' w → IsOwnSlotWord free u w) → ((w : Word) → IsOwnSlotWord free' u' w → m' w ≡ m w)
     → Every (FilledRight m free u) fs → Every (FilledRight m' free' u') fs
@@ -122,7 +122,7 @@ other_every P w (f ∷ fs) all = kept_by (same_word f.word w) (other_every P w f
     kept_by true rest = rest
     kept_by false rest = (all.0, rest)
 
--- a store to another word than these
+-- a store to a word other than these
 pub not_among : (m : Memory) (free : Slots) (u : Updating) (w : Word) (x : ℕ) (fs : List Filled) → IsNotAmong w fs → Every (FilledRight m free u) fs
     → Every (FilledRight (written m w x) free u) fs
 not_among m free u w x [] off all = tt

@@ -25,7 +25,7 @@ use Rattle.core_invariant.proofs.HeldSlots.{slots_known, slots_found, slots_numb
 use Rattle.core_invariant.proofs.Groups.{Group, PartOf, part}
 use Rattle.core_invariant.proofs.Groups.Group.{Owner, Inside, Announcing, History, Counting, Snapshot, Tree, Standing, Links, Turns, Looking, Filling, Nodes, Locks, Nexts, Change, Pending, Unset, Owed, Leaving, Waiting, Free, Retired, Grace, Unused}
 
--- a load that stands, and what a search forgets as it goes nowhere
+-- the groups of a load that moves the seat, and of a search that is forgotten
 abbrev walks : Group → Bool
 walks Standing = true
 walks Links = true
@@ -126,7 +126,7 @@ touches SetTag Nodes = true
 touches SetTag Owed = true
 touches _ _ = false
 
--- what both of two views have
+-- what two views have in common
 either : (g : Group) (p : PartOf g) (b : Bool) (x y : View) → part g x ≡ p → part g y ≡ p → part g (cond b x y) ≡ p
 either g p true x y one two = one
 either g p false x y one two = two
@@ -365,7 +365,7 @@ parts_same touched u v same (g ∷ gs) off =
 abbrev pub Spares : Kind → List Group → Type 0
 Spares kind gs = AreOff (touches kind) gs
 
--- an enter leaves all groups but those of slots that come back, once the seat is in its section
+-- an enter keeps all groups except those of slots that come back, once the seat is in its section
 pub parts_entered : (passes value : ℕ) (v : View) (gs : List Group) → AreOff frees gs → parts gs (entered passes v value) ≡ parts gs (in_section v value)
 parts_entered passes value v =
     let u : View = in_section v value in

@@ -1,4 +1,4 @@
--- What holds of each item of a list, and of the seats, where only something else has changed.
+-- What holds of each item of a list, and of the seats, if only something else has changed.
 use Rattle.std.proofs.Common.{◌≡◌, ℕ, suc, ◌+◌, ◌<◌, ◌≤◌, cond, List, [], ◌∷◌, Bool, true, false, eqb, set, get_or, arith, refl, ap, ◌∙◌, sym, subst, inl, inr, map, ◌++◌}
 use Rattle.std.specs.List.{All, sum_by}
 use Rattle.std.proofs.lemmas.Bool.{eq-eqb, ne_eqb, cases_lt}
@@ -57,11 +57,11 @@ every_at P n (x ∷ xs) all some =
 pub all_items : {X : Type 0} (P Q : X → Type 0) (xs : List X) → All P xs → ((n : ℕ) (x : X) → IsItem xs n x → P x → Q x) → All Q xs
 all_items P Q xs all step k d within = step k (get_or xs k d) (record { within = within; is = λ c. get_or_default xs k c d within }) (all k d within)
 
--- two items at one place are one
+-- two items at one place are the same
 pub same_item : {X : Type 0} (xs : List X) (i j : ℕ) (x y : X) → IsItem xs i x → IsItem xs j y → j ≡ i → x ≡ y
 same_item xs i j x y at of same = sym (at.is y) ∙ ap (λ n. get_or xs n y) (sym same) ∙ of.is y
 
--- an item where a sum is not 0
+-- an item if a sum is not 0
 pub record Term {X : Type 0} (f : X → ℕ) (xs : List X) : Type 0 where
   pub place : ℕ
   pub item : X
@@ -83,14 +83,14 @@ pub live_moved : (z : Layout) (vs : List View) (i k : ℕ) (v w : View) → IsIt
     → IsLive z (set vs i w) k → IsLive z vs k
 live_moved z vs i k v w at more live = (live.0, omega (arith, sum_moved (own_free nodes_of k) vs i v w at, more, live.1))
 
--- a bundle's pending entry stays so where one view moves and keeps it
+-- a bundle's pending entry stays so if one view moves and keeps it
 pub pending_moved : (vs : List View) (i k e : ℕ) (v w : View) → IsItem vs i v → pending_count e w ≡ pending_count e v
     → (0 < count k (work_nodes v) → 0 < count k (work_nodes w)) → IsPendingAt vs k e → IsPendingAt (set vs i w) k e
 pending_moved vs i k e v w at same works is =
     let P : View → Type 0 = λ u. 0 < pending_count e u → 0 < count k (work_nodes u) in
     (sum_kept (pending_count e) vs i v w at same ∙ is.0, all_moved P P vs i v w at is.1 (λ some. works (at_item P vs i v at is.1 (omega (arith, same, some)))) (λ u beside of. of))
 
--- a bundle stays right where its pending entries stay so
+-- a bundle stays right if its pending entries stay so
 pub bundle_weaker : (s : ℕ) (next stamp number : ℕ → ℕ) (P Q : ℕ → Type 0) (head : ℕ) (es : List ℕ) → ((e : ℕ) → P e → Q e)
     → BundleRight s next stamp number P head es → BundleRight s next stamp number Q head es
 bundle_weaker s next stamp number P Q head es step right = record {
@@ -101,7 +101,7 @@ bundle_weaker s next stamp number P Q head es step right = record {
   owned = every_map (λ e. stamp e ≡ 0 → P e) (λ e. stamp e ≡ 0 → Q e) es (λ e of none. step e (of none)) right.owned;
 }
 
--- some view still knows the whole history where one view moves and forgets nothing
+-- some view still knows the whole history if one view moves and forgets nothing
 pub knows_moved : (updates : List Update) (vs : List View) (i : ℕ) (v w : View) → IsItem vs i v → (v.history.seen ≡ updates → w.history.seen ≡ updates)
     → KnowsAll updates vs → KnowsAll updates (set vs i w)
 knows_moved updates vs i v w at keeps knows =

@@ -1,4 +1,4 @@
--- What is loaded or stored at a locked node leaves the slots of the locked nodes as they are.
+-- What is loaded or stored at a locked node keeps the slots of the locked nodes.
 use Rattle.std.proofs.Common.{◌≡◌, ℕ, cond, List, [], ◌∷◌, Bool, true, false, eqb, refl, ap, ◌∙◌, Some, map}
 use Rattle.index_words.specs.declared.side.Side.{Side}
 use Rattle.index_words.specs.declared.side.Side.TheVariants.{Left}
@@ -23,7 +23,7 @@ either_node : (b : Bool) (g h : HeldNode) → g.node ≡ h.node → (cond b g h)
 either_node true g h same = same
 either_node false g h same = refl
 
--- the same where only the node at one slot changes
+-- the same if only the node at one slot changes
 one_kept : (k : ℕ) (f : HeldNode → HeldNode) → KeepsSlot f → (hs : List HeldNode) → held_slots (map (λ (h : HeldNode). cond (eqb h.node k) (f h) h) hs) ≡ held_slots hs
 one_kept k f same = slots_kept (λ (h : HeldNode). cond (eqb h.node k) (f h) h) (λ h. either_node (eqb h.node k) (f h) h (same h))
 

@@ -46,7 +46,7 @@ longer_long seen other = long_by (ltb (length seen) (length other)) seen other r
 pub longer_begins : (updates seen other : List Update) → Begins updates seen → Begins updates other → Begins updates (longer seen other)
 longer_begins updates seen other one two = either_list (Begins updates) (ltb (length seen) (length other)) other seen two one
 
--- a beginning that is as long is the whole
+-- a beginning that is as long as the whole is the whole
 pub whole : (updates seen : List Update) → Begins updates seen → length updates ≤ length seen → seen ≡ updates
 whole updates seen begins long = begins ∙ take_all (length seen) updates long
 

@@ -1,4 +1,4 @@
--- What an event of one seat leaves of its view as it is.
+-- Which parts of its view an event of one seat keeps.
 use Rattle.std.proofs.Common.{◌≡◌, ℕ, [], ◌∷◌, List, false, refl, ap, Option}
 use Rattle.index_words.specs.declared.layout.Layout.{Layout}
 use Rattle.key_map.specs.declared.update.Update.{Update}

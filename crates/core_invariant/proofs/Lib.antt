@@ -1,14 +1,14 @@
--- What holds of each item of a list, and of the seats, where only something else has changed.
+-- What holds of each item of a list, and of the seats, if only something else has changed.
 pub mod Frames
--- One bundle, where what it reads stays the same at its entries.
+-- One bundle, if what it reads stays the same at its entries.
 pub mod BundleFrames
 -- Two sides compared, and a link compared with another one.
 pub mod Sides
--- What a seat has filled stays where a store is to another word than one of its own slots.
+-- What a seat has filled stays if a store is to a word other than those of its own slots.
 pub mod Filled
 -- What idle views hold, and what the rule says of two views with numbers.
 pub mod Idle
--- What the rule says of announcements and of each two seats is kept where what it reads of a view is.
+-- What the rule says of announcements and of each two seats is kept if what it reads of a view is.
 pub mod Pairs
 -- Moves of one view's slots that keep the rule.
 pub mod OneView
@@ -22,7 +22,7 @@ pub mod Without
 pub mod SlotLinks
 -- A bundle that gets an entry without a number in front: what is linked, read and held.
 pub mod Fronts
--- A node that a view has locked and found unmarked is the root or in the tree, but for one that its update took out.
+-- A node that a view has locked and found unmarked is the root or in the tree, unless its update took it out.
 pub mod Locked
 -- A view that waits outside of a section holds nothing of any batch.
 pub mod Waits
@@ -32,15 +32,16 @@ pub mod WaitNeeds
 pub mod Apart
 -- The nodes of a tree, as a list in the order of their keys.
 pub mod TreeNodes
--- A tree stays spelled, and its gaps stay as they are, where the same is read of the root and of its nodes.
+-- A tree stays spelled, and its gaps stay as they are, if the same is read of the root and of its nodes.
 pub mod TreeFrames
--- What is read by computation: the newest entry that has a number, the entries from a head on, and the tree from
+-- What is read by computation: the newest entry that has a number, the entries from a head on, and the tree from a
+-- child on.
 pub mod TreeReads
 -- The tree at the stamp and the bundles, as they are read from the words, are what the rule names.
 pub mod TreeNow
--- The tree after an update, for puts and removals alike, and what the tests of a tree step tell.
+-- The tree after an update, for puts and removals alike, and what the tests of a tree step say.
 pub mod TreeSteps
--- A move of one view that leaves its slots and its update keeps the rule, where the rule on its seat is kept.
+-- A move of one view that keeps its slots and its update keeps the rule, if the rule on its seat is kept.
 pub mod Quiet
 -- The law on links, from what the words of two tables mean to the words themselves.
 pub mod LinkLaw
@@ -48,7 +49,7 @@ pub mod LinkLaw
 pub mod Needed
 -- What an allowed event gives: the rule over what the words and the views are then.
 pub mod StepGives
--- What is loaded or stored at a locked node leaves the slots of the locked nodes as they are.
+-- What is loaded or stored at a locked node keeps the slots of the locked nodes.
 pub mod HeldSlots
 -- The fields of a view in groups: what the parts of the rule read and the kinds of events touch.
 pub mod Groups
@@ -56,9 +57,9 @@ pub mod Groups
 pub mod Footprints
 -- The words to which each kind of event stores: another word is as before.
 pub mod WordPrints
--- What an event of one seat leaves of its view as it is.
+-- Which parts of its view an event of one seat keeps.
 pub mod KeptViews
--- No event but a join changes whether a view was joined, and a join leaves nothing of the other view.
+-- No event except a join changes whether a view was joined, and a join leaves nothing of the other view.
 pub mod SpentViews
 -- What a view holds by its locks and its new node, and the test for a lock.
 pub mod HeldFacts
@@ -69,13 +70,13 @@ pub mod Longest
 -- A view that stands at another place, remembers other links, and has loaded more of the same locked nodes keeps the
 -- rule.
 pub mod ReadMoves
--- What a seat knows that stands at an entry: the entry is in the bundle, and its number, and what is selected.
+-- What a seat that stands at an entry knows: the entry is in the bundle, and its number, and what is selected.
 pub mod AtEntries
 -- Where an allowed cut is, and that no seat reads below the number of its entry.
 pub mod Cuts
--- Numbers fall along a bundle: behind an entry whose number was found stands one whose number is written, and below it.
+-- Numbers fall along a bundle: after an entry whose number was found comes one whose number is written, and lower.
 pub mod Falling
--- The links of a tree with their children, and what an update leaves of them.
+-- The links of a tree with their children, and which of them an update keeps.
 pub mod Children
 -- An item of a list that passes a test.
 pub mod Passing
@@ -83,13 +84,14 @@ pub mod Passing
 pub mod PlainMoves
 -- The links that an update leaves to be set, and the tags that it leaves to be raised, over what the links lead to.
 pub mod PlainSteps
--- What is said of plain links, where one view moves and has the same still to do, or where only other words change.
+-- What is said of plain links, if one view moves and still has the same to do, or if only other words change.
 pub mod PlainFrames
--- A node whose lock may be tried is live, and in the batch of no seat that has let this one pass.
+-- A node whose lock may be tried is live, and in the batch of no seat that has passed this one.
 pub mod LockReach
--- The nodes of a search on plain links, where a view moves.
+-- The nodes of a search on plain links, if a view moves.
 pub mod SearchNodes
--- What the updates of the views have still to do at plain links, by the view that has it.
+-- What the updates of the views still have to do at plain links, by the view that has it.
 pub mod Undone
--- At a node that a seat has locked before its raise no link is to be set, if it is the root or in the tree at the stamp.
+-- At a node that a seat has locked before its raise no link is to be set, if it is the root or in the tree at the
+-- stamp.
 pub mod UnsetLinks

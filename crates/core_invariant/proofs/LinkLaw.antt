@@ -70,7 +70,7 @@ module _ (z : Layout) (m : Memory) (g : Meaning) where
         ap (select (entry_number m vs) n) (chain-same (λ d. m (Entry Next d)) (m (Node (Head side) k)) es (g.bundles.bundle side k) chain (rule.bundles k live side).chain)
         ∙ select_frame n (entry_number m vs) g.bundles.number (g.bundles.bundle side k) (λ d here. inl (number_is k d side live here))
 
--- where two meanings select the same, so do the words
+-- if two meanings select the same, so do the words
 pub selections_kept : (z : Layout) (m m' : Memory) (vs ws : List View) (g h : Meaning) → Rule z m vs g → Rule z m' ws h → SelectsSame z (IsRead (m Stamp) vs) vs g ws h
     → (n k : ℕ) (side : Side) (es fs : List ℕ) → IsRead (m Stamp) vs n → IsLive z vs k → IsLive z ws k → IsBundleOf m side k es → IsBundleOf m' side k fs
     → select (entry_number m vs) n es ≡ select (entry_number m' ws) n fs

@@ -1,4 +1,4 @@
--- A node whose lock may be tried is live, and in the batch of no seat that has let this one pass.
+-- A node whose lock may be tried is live, and in the batch of no seat that has passed this one.
 use Rattle.std.proofs.Common.{◌≡◌, ℕ, ◌<◌, ◌≤◌, List, [], ◌∷◌, Bool, true, false, eqb, ◌||◌, arith, refl, sym, subst}
 use Rattle.std.proofs.lemmas.Bool.{eqb-true}
 use Rattle.std.proofs.lemmas.Bool.Decides.{nat_tests}

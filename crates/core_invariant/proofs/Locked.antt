@@ -1,4 +1,4 @@
--- A node that a view has locked and found unmarked is the root or in the tree, but for one that its update took out.
+-- A node that a view has locked and found unmarked is the root or in the tree, unless its update took it out.
 use Rattle.std.proofs.Common.{◌≡◌, ℕ, ◌<◌, ◌≤◌, ◌⊎◌, cond, List, ◌∷◌, Bool, true, false, eqb, arith, ap, subst, inl, inr, Option, Some, None, is_some}
 use Rattle.std.specs.List.{sum_by}
 use Rattle.std.proofs.lemmas.Bool.{cases_lt}
@@ -33,7 +33,7 @@ module _ (z : Layout) (m : Memory) (vs : List View) (g : Meaning) (rule : Rule z
   pub locked_live : (i k : ℕ) (v : View) → IsItem vs i v → 0 < lock_count k v → IsLive z vs k
   locked_live i k v at some = held_live z vs g rule.slots i k v at (held_holds v k some) ((seat_at z m vs g i v at rule).locks k some).0
 
-  -- two views that have one node locked are one
+  -- two views that have the same node locked are the same
   pub same_locker : (i j k : ℕ) (v u : View) → IsItem vs i v → IsItem vs j u → 0 < lock_count k v → 0 < lock_count k u → v ≡ u
   same_locker i j k v u at of some also =
       elim (eqb_tells j i) as (λ _. v ≡ u) [

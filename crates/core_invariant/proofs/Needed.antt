@@ -121,8 +121,8 @@ module _ (z : Layout) (m : Memory) (vs : List View) (g : Meaning) where
       let none = length_empty v.held.nodes parts.1 in
       record { reading = section.outside parts.0; held = none; update = section.done none }
 
--- what a prepare needs: the node is locked and was found unmarked, the entry is free, has no number, and has the
--- old head behind it, which is 0 or has a written number
+-- what a prepare needs: the node is locked and was found unmarked, the entry is free, has no number, and has the old
+-- head as its next, which is 0 or has a written number
 pub record Ready (m : Memory) (v : View) (side : Side) (k e : ℕ) : Type 0 where
   pub raised : v.update.raised ≡ None
   pub locked : 0 < lock_count k v

@@ -49,7 +49,7 @@ item_from_get xs i x found = record { within = slice_get_within xs i x found; is
 abbrev pub with_slots : View → Slots → Slots → Slots → Looks → Slots → View
 with_slots v f r b l n = record v { free = f; retired = r; batch = b; grace = l; unused = n }
 
--- the history is kept where one view keeps its part of it
+-- the history is kept if one view keeps its part of it
 pub history_kept : (z : Layout) (s : ℕ) (g : Meaning) (vs : List View) (i : ℕ) (v w : View) → IsItem vs i v → w.number ≡ v.number → w.history ≡ v.history
     → HistoryRight z s g.updates vs → HistoryRight z s g.updates (set vs i w)
 history_kept z s g vs i v w at number history right = record {
@@ -96,7 +96,7 @@ module _ (z : Layout) (m : Memory) (vs : List View) (g : Meaning) where
     links = seat.links;
   }
 
-  -- where a view moves only its slots, and frees no less, the rules on slots and on marks are all that is left
+  -- if a view moves only its slots, and frees no less, only the rules on slots and on marks are left
   pub moved_slots : (i : ℕ) (v : View) (f r b : Slots) (l : Looks) (n : Slots) → IsItem vs i v → Rule z m vs g
       → ((k : ℕ) → count k v.free.nodes ≤ count k f.nodes) → MarksRight (λ k. m (Node Mark k)) (with_slots v f r b l n)
       → Every (FilledRight m f v.update) v.reading.filled → SlotRule z (linked_by g) HoldsNode (HoldsEntry g.bundles) (set vs i (with_slots v f r b l n))
@@ -162,7 +162,7 @@ module _ (z : Layout) (m : Memory) (vs : List View) (g : Meaning) where
   pub taken : (i : ℕ) (v : View) → IsItem vs i v → Rule z m vs g → IsIdle v → Rule z m (set vs i (batch_taken v)) g
   taken i v at rule idle = taken_by i v (is_empty v.batch) refl at rule idle
 
-  -- where each other pass was passed, no seat holds anything of an idle seat's batch
+  -- if each other pass was passed, no seat holds anything of an idle seat's batch
   none_holds : (i : ℕ) (v : View) → IsItem vs i v → Rule z m vs g → IsIdle v → all_passed z.passes v.number v.grace.passed ≡ true
       → All (HoldsNone HoldsNode (HoldsEntry g.bundles) v.batch) vs
   none_holds i v at rule idle done =
@@ -193,8 +193,8 @@ module _ (z : Layout) (m : Memory) (vs : List View) (g : Meaning) where
   not_both n None is other = cc
   not_both n (Some k) is other = let same : k ≡ n = cc in cc (eq-eqb k n same)
 
-  -- a look that found the section word of another pass keeps the rule, where a pass outside a section holds nothing of
-  -- the batch
+  -- a look that found the section word of another pass keeps the rule, if a pass outside a section holds nothing of the
+  -- batch
   pub look_right : (i : ℕ) (v : View) (pass : ℕ) → IsItem vs i v → Rule z m vs g → is_number pass v.number ≡ false
       → ((u : View) → Beside vs i u → is_even u.section_word ≡ true → HoldsNone HoldsNode (HoldsEntry g.bundles) v.batch u)
       → Rule z m (set vs i (record v { grace = looked_at v.grace pass (m (Section pass)) })) g

@@ -50,7 +50,7 @@ slot_some size k some = grind (arith, nat_tests)
 abbrev pub own_waiting : (Slots → List ℕ) → ℕ → View → ℕ
 own_waiting pick k v = count k (pick v.retired) + count k (pick v.batch)
 
--- where a slot is at most once in a list of one view, it is not free in one and waits in another
+-- if a slot is at most once in a list of one view, it is not free in one and waits in another
 pub free_waits : (pick : Slots → List ℕ) (vs : List View) (i j k : ℕ) (v u : View) → IsItem vs i v → IsItem vs j u → sum_by (own pick k) vs ≤ 1
     → 0 < own_free pick k v → own_waiting pick k u ≡ 0
 free_waits pick vs i j k v u at of once some =

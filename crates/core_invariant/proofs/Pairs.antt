@@ -1,4 +1,4 @@
--- What the rule says of announcements, and of each two seats, is kept where what it reads of a view is.
+-- What the rule says of announcements, and of each two seats, is kept if what it reads of a view is.
 use Rattle.std.proofs.Common.{◌≡◌, ℕ, ◌+◌, ◌<◌, ◌≤◌, List, [], ◌∷◌, ◌++◌, set, get_or, arith, ap, sym, subst, Option, Some, None}
 use Rattle.std.specs.Prelude.{IfSome, IsSomeAnd}
 use Rattle.std.specs.List.{All}
@@ -60,7 +60,7 @@ of_none u w none = by u.reading.least
 pub by_none : (w u : View) → w.reading.least ≡ None → LookedRight w u
 by_none w u none = subst (λ (o : Option ℕ). IfSome o (λ n. Every (λ q. u.number ≡ Some q → ReadsFrom n u) w.reading.looked)) (sym none) tt
 
--- a view that reads nothing comes in the place of another one
+-- a view that reads nothing takes the place of another one
 pub pairs_idle : (vs : List View) (i : ℕ) (v w : View) → IsItem vs i v → w.reading.section ≡ None → w.reading.least ≡ None
     → PairsRight vs → PairsRight (set vs i w)
 pairs_idle vs i v w at section least right =

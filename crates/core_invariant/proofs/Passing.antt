@@ -10,7 +10,7 @@ pub record Passing {X : Type 0} (f : X → Bool) (P : X → Type 0) : Type 0 whe
   pub right : P item
   pub passes : f item ≡ true
 
--- where some item passes, there is one, of which holds what holds of each
+-- if some item passes, there is one, of which holds what holds of each
 pub passing : {X : Type 0} (f : X → Bool) (P : X → Type 0) (xs : List X) → Every P xs → list_any f xs ≡ true → Passing f P
 passing f P [] all some = absurd (never some)
 passing f P (x ∷ xs) all some = by (f x) refl some (λ rest. passing f P xs all.1 rest)
@@ -19,7 +19,7 @@ passing f P (x ∷ xs) all some = by (f x) refl some (λ rest. passing f P xs al
     by true is some rest = record { item = x; right = all.0; passes = is }
     by false is some rest = rest some
 
--- some item passes where those that pass are counted
+-- some item passes if those that pass are counted
 pub any_counted : {X : Type 0} (f : X → Bool) (xs : List X) → 0 < length (filter f xs) → list_any f xs ≡ true
 any_counted f [] some = absurd (omega (arith, some))
 any_counted f (x ∷ xs) some = by (f x) some (any_counted f xs)
@@ -36,7 +36,7 @@ counted_any f (x ∷ xs) some = by (f x) some (counted_any f xs)
     by true some rest = omega arith
     by false some rest = rest some
 
--- where no item passes, each fails
+-- if no item passes, each fails
 pub none_passing : {X : Type 0} (f : X → Bool) (P : X → Type 0) (xs : List X) → ((x : X) → f x ≡ false → P x) → not (list_any f xs) ≡ true → Every P xs
 none_passing f P [] step off = tt
 none_passing f P (x ∷ xs) step off = by (f x) refl off (λ none. none_passing f P xs step none)
@@ -45,7 +45,7 @@ none_passing f P (x ∷ xs) step off = by (f x) refl off (λ none. none_passing 
     by true is none rest = cc
     by false is none rest = (step x is, rest none)
 
--- where all pass, each does
+-- if all pass, each does
 pub all_passing : {X : Type 0} (f : X → Bool) (xs : List X) → list_all f xs ≡ true → Every (λ x. f x ≡ true) xs
 all_passing f [] all = tt
 all_passing f (x ∷ xs) all = let parts = and_parts (f x) (list_all f xs) all in (parts.0, all_passing f xs parts.1)
@@ -55,7 +55,7 @@ pub both_hold : {X : Type 0} (P Q : X → Type 0) (xs : List X) → Every P xs �
 both_hold P Q [] one two = tt
 both_hold P Q (x ∷ xs) one two = ((one.0, two.0), both_hold P Q xs one.1 two.1)
 
--- a list of which no item can be is empty
+-- a list that can have no item is empty
 pub none_left : {X : Type 0} (xs : List X) → Every (λ x. ⊥) xs → xs ≡ []
 none_left [] all = refl
 none_left (x ∷ xs) all = absurd all.0

@@ -1,4 +1,4 @@
--- What is said of plain links, where one view moves and has the same still to do, or where only other words change.
+-- What is said of plain links, if one view moves and still has the same to do, or if only other words change.
 use Rattle.std.proofs.Common.{◌≡◌, ℕ, ◌<◌, ◌≤◌, cond, List, [], ◌∷◌, ◌++◌, length, Bool, true, false, eqb, set, arith, refl, ap, ◌∙◌, sym, subst, filter}
 use Rattle.std.proofs.lemmas.Bool.Decides.{nat_tests}
 use Rattle.std.proofs.lemmas.List.Elements.{All-set, All-push}
@@ -20,14 +20,14 @@ use Rattle.core_invariant.specs.Locks.{lock_count}
 use Rattle.core_invariant.specs.PlainRule.{unset_count, owed_count, selected_of, child_at, greatest_of, UnsetRight, OwedRight, SeatPlain, LinksRight}
 use Rattle.core_invariant.proofs.Frames.{every_map}
 
--- the second view has as much still to do as the first, and still has the locks
+-- the second view still has as much to do as the first, and still has the locks
 pub record HasSameWork (v w : View) : Type 0 where
   pub unset : w.update.unset ≡ v.update.unset
   pub owed : w.update.owed ≡ v.update.owed
   pub raised : w.update.raised ≡ v.update.raised
   pub locks : (k : ℕ) → 0 < lock_count k v → 0 < lock_count k w
 
--- no more is still to be done by a view whose update has ended
+-- a view whose update has ended has no more to do
 pub idle_unset : (k : ℕ) (side : Side) (v : View) → v.update ≡ no_update → unset_count k side v ≡ 0
 idle_unset k side v idle = ap (λ (u : Updating). length (filter (is_link_of k side) u.unset)) idle
 
@@ -85,7 +85,7 @@ module _ (link tag child greatest : Side → ℕ → ℕ) (tree : NamedTree) whe
     pub plain_moved : HasSameWork v w → Links (set vs i w)
     plain_moved same = plain_seat (same_unset v w same) (same_owed v w same) (seat_same v w same seat_at)
 
-    -- and another one, which has nothing to do, is put behind the others
+    -- and another one, which has nothing to do, is put after the others
     pub plain_pushed : HasSameWork v w → (y : View) → y.update ≡ no_update → Links (set vs i w ++ y ∷ [])
     plain_pushed same y idle = record {
       linked = λ k side there none. right.linked k side there
@@ -107,14 +107,15 @@ module _ (link tag child greatest : Side → ℕ → ℕ) (tree : NamedTree) whe
       seats = All-set Seat (set vs i w) j spent_view (idle_seat spent_view refl) (all_moved Seat Seat vs i v w at right.seats (seat_same v w same seat_at) (λ x beside is. is));
     }
 
--- a link and its tag hold the same, lead to the same child at the stamp, and the greatest number of the bundle is no less
+-- a link and its tag hold the same, lead to the same child at the stamp, and the greatest number of the bundle is no
+-- less
 pub record IsSameLink (link tag child greatest link' tag' child' greatest' : Side → ℕ → ℕ) (k : ℕ) (side : Side) : Type 0 where
   pub same_link : link' side k ≡ link side k
   pub same_tag : tag' side k ≡ tag side k
   pub same_child : child' side k ≡ child side k
   pub no_less : greatest side k ≤ greatest' side k
 
--- where this is so of each link of the tree, what is said of plain links stays
+-- if this is so of each link of the tree, what is said of plain links stays
 pub plain_framed : (link tag child greatest link' tag' child' greatest' : Side → ℕ → ℕ) (tree : NamedTree) (vs : List View)
     → ((k : ℕ) (side : Side) → IsLinkIn 0 Right tree k side → IsSameLink link tag child greatest link' tag' child' greatest' k side)
     → LinksRight link tag child greatest tree vs → LinksRight link' tag' child' greatest' tree vs
@@ -134,7 +135,7 @@ same_least : (c : Bool) (a b : ℕ) → (c ≡ false → a ≤ b) → cond c 0 a
 same_least true a b less = omega arith
 same_least false a b less = less refl
 
--- other bundles and numbers, where the stamp selects the same entry at each link of the tree, whose number is no less
+-- other bundles and numbers, if the stamp selects the same entry at each link of the tree, whose number is no less
 pub plain_selected : (link tag : Side → ℕ → ℕ) (child : ℕ → ℕ) (b b' : Bundles) (s : ℕ) (tree : NamedTree) (vs : List View)
     → ((k : ℕ) (side : Side) → IsLinkIn 0 Right tree k side → selected_of b' s side k ≡ selected_of b s side k)
     → ((k : ℕ) (side : Side) → IsLinkIn 0 Right tree k side → 0 < selected_of b s side k → b.number (selected_of b s side k) ≤ b'.number (selected_of b s side k))

@@ -1,4 +1,5 @@
--- What an update leaves to be done at plain links, in the tree: no other link of a node that stays leads to another child after it.
+-- What an update leaves to be done at plain links, in the tree: no other link of a node that stays leads to another
+-- child after it.
 use Rattle.std.proofs.Common.{◌≡◌, ℕ, ◌<◌, ◌⊎◌, cond, List, [], ◌∷◌, length, Bool, true, false, eqb, arith, ap, ◌∙◌, sym, subst, inl, inr, filter}
 use Rattle.std.proofs.lemmas.Bool.{and_from, eq-eqb}
 use Rattle.index_words.specs.declared.side.Side.{Side}

@@ -1,4 +1,5 @@
--- The links that an update leaves to be set, and the tags that it leaves to be raised, over what the links lead to before and after.
+-- The links that an update leaves to be set, and the tags that it leaves to be raised, over what the links lead to
+-- before and after.
 use Rattle.std.proofs.Common.{◌≡◌, ℕ, ◌<◌, ◌≤◌, cond, List, [], ◌∷◌, length, Bool, true, false, eqb, ◌&&◌, ◌||◌, arith, refl, ap, ◌∙◌, sym, subst, map, filter}
 use Rattle.std.specs.List.{list_any}
 use Rattle.std.proofs.lemmas.Bool.{and_parts, eq-eqb, eqb-true}
@@ -68,7 +69,7 @@ owed_item P k side (u ∷ us) all some = by (owed_item P k side us all.1) (eqb u
     by rest true is some = here rest (eqb-true u.child 0 is) (eqb u.node k && same_side u.side side) refl some
     by rest false is some = rest some
 
--- where each item of a link is to lead to none, and there is one, its tag is owed
+-- if each item of a link is to lead to none, and there is one, its tag is owed
 null_listed : (k : ℕ) (side : Side) (us : List UnsetLink) → Every (λ (u : UnsetLink). is_link_of k side u ≡ true → u.child ≡ 0) us → Sets k side us → owes k side (made_null us) ≡ true
 null_listed k side [] all some = absurd (omega (arith, some))
 null_listed k side (u ∷ us) all some = by (null_listed k side us all.1) (is_link_of k side u) refl some (eqb u.child 0) refl
@@ -81,7 +82,7 @@ null_listed k side (u ∷ us) all some = by (null_listed k side us all.1) (is_li
     by rest false is more true null = ap (λ c. c || owes k side (made_null us)) is ∙ rest more
     by rest false is more false some = rest more
 
--- no more tags are owed of a link than it is to be set
+-- no more tags are owed of a link than the number of times it is to be set
 owed_fewer : (k : ℕ) (side : Side) (us : List UnsetLink) → length (filter (is_owed_at k side) (made_null us)) ≤ length (filter (is_link_of k side) us)
 owed_fewer k side [] = omega arith
 owed_fewer k side (u ∷ us) = by (owed_fewer k side us) (eqb u.child 0)
@@ -103,7 +104,7 @@ one_most : (b : Bool) (u : UnsetLink) → length (cond b (u ∷ []) []) ≤ 1
 one_most true u = omega arith
 one_most false u = omega arith
 
--- a link is set once, where those behind the first one are of other nodes, and no more than one
+-- a link is set once, if those after the first one are of other nodes, and no more than one
 both_most : (b c : Bool) (u w : UnsetLink) → (b ≡ true → c ≡ true → ⊥) → length (cond b (u ∷ cond c (w ∷ []) []) (cond c (w ∷ []) [])) ≤ 1
 both_most true true u w apart = absurd (apart refl refl)
 both_most true false u w apart = omega arith

@@ -1,4 +1,4 @@
--- A move of one view that leaves its slots and its update keeps the rule, where the rule on its seat is kept.
+-- A move of one view that keeps its slots and its update keeps the rule, if the rule on its seat is kept.
 use Rattle.std.proofs.Common.{◌≡◌, ℕ, ◌+◌, ◌<◌, List, ◌++◌, set, arith, refl, ap, ◌∙◌, sym, subst, inl}
 use Rattle.index_words.specs.declared.layout.Layout.{Layout}
 use Rattle.index_words.specs.declared.view.View.{View}

@@ -1,4 +1,4 @@
--- The nodes of a search on plain links, where a view moves: those at which it stands, turned, or found a link.
+-- The nodes of a search on plain links, if a view moves: those at which it stands, turned, or found a link.
 use Rattle.std.proofs.Common.{◌≡◌, ℕ, ◌+◌, ◌<◌, ◌≤◌, ◌⊎◌, inl, inr, eqb, List, [], ◌∷◌, ◌++◌, cond, Bool, true, false, map, arith, refl, ap, ◌∙◌, sym, subst, Option, Some, None}
 use Rattle.std.specs.List.{flat_map}
 use Rattle.std.proofs.lemmas.Bool.{cases_lt, eqb-true}
@@ -63,7 +63,8 @@ search_count a top r = omega (
   count-append a (turn_nodes r.right_turn) (flat_map link_nodes r.links),
 )
 
--- the second view searches at no other nodes than the first one, in the same section, and has no more slots in its lists
+-- the second view searches at no other nodes than the first one, in the same section, and has no more slots in its
+-- lists
 pub record IsCalm (v w : View) : Type 0 where
   pub word : w.section_word ≡ v.section_word
   pub number : w.number ≡ v.number
@@ -121,7 +122,7 @@ place_top a top top' Nowhere some = one_of (eqb top a) refl some
     one_of false is here = absurd (omega (arith, here))
 place_top a top top' _ some = inr some
 
--- a node of a search is the root's child, or one whatever that is
+-- a node of a search is the root's child, or one whatever the root's child is
 pub search_top : (a top top' : ℕ) (r : Reading) → 0 < count a (search_nodes top r) → (a ≡ top) ⊎ (0 < count a (search_nodes top' r))
 search_top a top top' r some =
     elim (cases_lt 0 (count a (place_nodes top r.place))) as (λ _. (a ≡ top) ⊎ (0 < count a (search_nodes top' r))) [

@@ -19,7 +19,7 @@ not_both : (a b : Bool) → (a && b) ≡ false → a ≡ true → b ≡ true →
 not_both true true off one two = cc
 not_both _ _ off one two = cc
 
--- where one link's bundle is another list: what holds of that list, and of each other link's bundle
+-- if one link's bundle is another list: what holds of that list, and of each other link's bundle
 pub by_link : (P : Side → ℕ → List ℕ → Type 0) (bundle : Side → ℕ → List ℕ) (side : Side) (k : ℕ) (es : List ℕ) → P side k es
     → ((s : Side) (j : ℕ) → (s ≡ side → j ≡ k → ⊥) → P s j (bundle s j)) → (s : Side) (j : ℕ) → P s j (with_bundle bundle side k es s j)
 by_link P bundle side k es here other s j = by (same_side s side && eqb j k) refl

@@ -29,7 +29,8 @@ module _ (z : Layout) (linked linked' : Linked) (hn he he' : View → ℕ → Ty
   abbrev w : View
   w = record v { held = h; update = p; free = f }
 
-  -- what has changed: the entry is linked, and no longer free; the moved view, and each other, holds at most it beside what it held
+  -- what has changed: the entry is linked, and no longer free; the moved view, and each other, holds at most it besides
+  -- what it held before
   pub record Links : Type 0 where
     pub free_nodes : w.free.nodes ≡ v.free.nodes
     pub was_free : 0 < count e v.free.entries

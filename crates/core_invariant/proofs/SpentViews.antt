@@ -1,4 +1,4 @@
--- No event but a join changes whether a view was joined, and a join leaves nothing of the other view.
+-- No event except a join changes whether a view was joined, and a join leaves nothing of the other view.
 use Rattle.std.proofs.Common.{◌≡◌, ℕ, List, [], ◌∷◌, ◌++◌, Bool, true, false, set, refl, ◌∙◌, Option, Some, None}
 use Rattle.std.specs.List.{All, slice_get}
 use Rattle.std.proofs.lemmas.List.Elements.{All-set, All-push}

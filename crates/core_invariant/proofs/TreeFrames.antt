@@ -1,4 +1,4 @@
--- A tree stays spelled, and its gaps stay as they are, where the same is read of the root and of its nodes.
+-- A tree stays spelled, and its gaps stay as they are, if the same is read of the root and of its nodes.
 use Rattle.std.proofs.Common.{◌≡◌, ℕ, ◌<◌, ◌≤◌, ◌⊎◌, List, arith, refl, ap, ◌∙◌, sym, subst, inl, inr, Option, Some, None}
 use Rattle.std.specs.Prelude.{IfSome}
 use Rattle.std.proofs.lemmas.Bool.Decides.{nat_tests}

@@ -44,7 +44,7 @@ shown_none : (n : ℕ) (raised : Option ℕ) → not (is_none raised) ≡ false 
 shown_none n None none is = is
 shown_none n (Some r) none is = cc
 
--- an entry has a number where its number is at most the stamp
+-- an entry has a number if its number is at most the stamp
 tells_by : (n s : ℕ) (none raised : Bool) → (none ≡ false → n ≤ s) → (raised ≡ true → n ≤ s) → (none ≡ true → raised ≡ false → s < n)
     → (not none || raised || false) ≡ leb n s
 tells_by n s true true written known unknown = sym (le-leb n s (known refl))
@@ -148,13 +148,13 @@ module _ (z : Layout) (m : Memory) (vs : List View) (g : Meaning) (rule : Rule z
     pub numbered_or_none : (number e ≤ s) ⊎ (number e ≡ no_number)
     numbered_or_none = number_by (eqb (m (Entry Number e)) 0) (was_raised e vs) refl refl
 
-    -- and what is computed tells which
+    -- and what is computed says which
     pub number_tells : has_number m vs [] e ≡ leb (number e) s
     number_tells =
         tells_by (number e) s (eqb (m (Entry Number e)) 0) (was_raised e vs) (λ is. written_low (not_zero (m (Entry Number e)) is)) (raised_low e vs rule.seats)
         (λ none idle. omega (arith, stamp_low, unraised_none e vs rule.seats idle (pending_some (eqb-true (m (Entry Number e)) 0 none))))
 
-  -- the entries behind a head have numbers up to the stamp
+  -- the entries after a head have numbers up to the stamp
   pub tail_low : (k : ℕ) → IsLive z vs k → (side : Side) → TailLow g.bundles.number s (g.bundles.bundle side k)
   tail_low k live side =
       let right = rule.bundles k live side in

@@ -20,7 +20,7 @@ use Rattle.core_trees.specs.SpelledTree.{Graph, IsSpelled}
 use Rattle.core_events.specs.SpelledNow.{newest, tree_from, entries_from}
 use Rattle.core_invariant.proofs.Frames.{one_counted}
 
--- each entry behind the first has a number of at most `s`
+-- each entry after the first has a number of at most `s`
 abbrev pub TailLow : (ℕ → ℕ) → ℕ → List ℕ → Type 0
 TailLow number s [] = Unit {0}
 TailLow number s (e ∷ es) = (d : ℕ) → 0 < count d es → number d ≤ s
@@ -31,7 +31,7 @@ newest_none numbered next head is = ap (λ b. cond (b || numbered head) head (ne
 pub newest_some : (numbered : ℕ → Bool) (next : ℕ → ℕ) (e : ℕ) → 0 < e → newest numbered next e ≡ cond (numbered e) e (next e)
 newest_some numbered next e some = ap (λ b. cond (b || numbered e) e (next e)) (ne_eqb e 0 (omega (arith, some)))
 
--- where each entry has a number, the head is the selected one
+-- if each entry has a number, the head is the selected one
 head_selected : (next number : ℕ → ℕ) (s head : ℕ) (es : List ℕ) → IsChain next head es → ((d : ℕ) → 0 < count d es → number d ≤ s) → head ≡ select number s es
 head_selected next number s head [] chain low = chain
 head_selected next number s head (e ∷ es) chain low = chain.0 ∙ sym (select-here number s e es (low e (one_counted e (count e es))))
@@ -45,7 +45,7 @@ newest_is numbered next number s head (e ∷ es) chain same low =
     ∙ ap (λ b. cond b e (next e)) (same e (one_counted e (count e es)))
     ∙ ap (λ x. cond (leb (number e) s) e x) (head_selected next number s (next e) es chain.2 low)
 
--- the entries from the head on are the chain, where it has no more than so many
+-- the entries from the head on are the chain, if it has no more entries than the limit
 pub entries_from_is : (last : ℕ) (next : ℕ → ℕ) (n head : ℕ) (es : List ℕ) → IsChain next head es → ((d : ℕ) → 0 < count d es → d ≤ last) → length es ≤ n
     → entries_from n last next head ≡ es
 entries_from_is last next zero head [] chain there few = refl
@@ -61,7 +61,7 @@ entries_from_is last next (suc n) head (e ∷ es) chain there few =
 abbrev pub size : NamedTree → ℕ
 size tree = tally (λ k. 1) tree
 
--- the tree from the child on is the spelled one, where it has no more nodes than so many
+-- the tree from the child on is the spelled one, if it has no more nodes than the limit
 pub tree_from_is : (g : Graph) (depth last c : ℕ) (tree : NamedTree) → IsSpelled g c tree → ((x : ℕ) → 0 < occurs x tree → x ≤ last) → size tree ≤ depth
     → tree_from depth last g c ≡ tree
 tree_from_is g zero last c Null spelled low few = refl
@@ -119,7 +119,7 @@ take_length : (t : ℕ) (us : List Update) → length (take t us) ≤ t
 take_length (suc t) (u ∷ us) = omega (arith, take_length t us)
 take_length _ _ = omega arith
 
--- the map after so many updates has no more pairs
+-- the map after a number of updates has no more pairs than that
 pub after_length : (us : List Update) (t : ℕ) → length (after us t) ≤ t
 unfolding after
 after_length us t = omega (arith, fold_length (take t us) [], take_length t us)

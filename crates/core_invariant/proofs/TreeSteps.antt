@@ -1,4 +1,4 @@
--- The tree after an update, for puts and removals alike, and what the tests of a tree step tell.
+-- The tree after an update, for puts and removals alike, and what the tests of a tree step say.
 use Rattle.std.proofs.Common.{◌≡◌, ℕ, ◌+◌, ◌^◌, ◌<◌, ◌≤◌, ◌⊎◌, cond, List, [], ◌∷◌, ◌++◌, Bool, true, false, not, eqb, leb, arith, refl, ◌∙◌, sym, subst, inl, inr, ◌||◌}
 use Rattle.std.specs.List.{list_all, sum_by}
 use Rattle.std.proofs.lemmas.Bool.{ltb-true, and_parts, or_cases, not-true, ne_eqb, le-leb, lt-leb}
@@ -112,7 +112,7 @@ in_listed e some = by (eqb e 0) (ne_eqb e 0 (omega (arith, some)))
 pub listed_is : (k a : ℕ) → 0 < count k (a ∷ []) → a ≡ k
 listed_is k a some = grind (arith, nat_tests)
 
--- an entry has a number after the raise where its number is then at most the new stamp
+-- an entry has a number after the raise if its number is then at most the new stamp
 pub raised_tells : (x c : Bool) (n s : ℕ) → (x || false) ≡ leb n s → (n ≤ s) ⊎ (n ≡ no_number) → s + 1 < no_number → (x || c) ≡ leb (cond c (s + 1) n) (s + 1)
 raised_tells x true n s tells which room = or_true x ∙ sym (le-leb (s + 1) (s + 1) (omega arith))
   where
@@ -123,7 +123,7 @@ raised_tells x false n s tells (inl low) room = tells ∙ le-leb n s low ∙ sym
 raised_tells x false n s tells (inr none) room =
     tells ∙ lt-leb n s (omega (arith, none, room)) ∙ sym (lt-leb n (s + 1) (omega (arith, none, room)))
 
--- the entries behind a head still have numbers
+-- the entries after a head still have numbers
 pub raised_tail : (number : ℕ → ℕ) (more : List ℕ) (s : ℕ) (es : List ℕ) → TailLow number s es → TailLow (raised_numbers number more (s + 1)) (s + 1) es
 raised_tail number more s [] low = tt
 raised_tail number more s (e ∷ es) low = λ d here. by (has d more) (low d here)

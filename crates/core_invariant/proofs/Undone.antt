@@ -1,4 +1,5 @@
--- What the updates of the views have still to do at plain links, by the view that has it: the tests of `undone` taken apart.
+-- What the updates of the views still have to do at plain links, by the view that has it: the tests of `undone` taken
+-- apart.
 use Rattle.std.proofs.Common.{◌≡◌, ℕ, ◌+◌, ◌<◌, ◌⊎◌, cond, List, [], ◌∷◌, Bool, true, false, eqb, ◌&&◌, ◌||◌, suc, zero, set, arith, refl, ap, ◌∙◌, sym, subst, inl, inr, Option, Some, None}
 use Rattle.std.specs.List.{list_any}
 use Rattle.std.proofs.lemmas.Bool.{and_parts, eqb-true, eq-eqb}
@@ -60,7 +61,7 @@ any_from test [] i x at passes = absurd (omega (arith, at.within))
 any_from test (y ∷ ys) zero x at passes = or_left (test y) (list_any test ys) (ap test (at.is y) ∙ passes)
 any_from test (y ∷ ys) (suc i) x at passes = or_right (test y) (list_any test ys) (any_from test ys i x (record { within = omega (arith, at.within); is = λ d. at.is d }) passes)
 
--- where one view moves, and what passes still does
+-- if one view moves, and what passes still does
 pub any_moved : (test test' : View → Bool) (vs : List View) (i : ℕ) (v w : View) → IsItem vs i v → (test v ≡ true → test' w ≡ true)
     → ((t : View) → Beside vs i t → test t ≡ true → test' t ≡ true) → list_any test vs ≡ true → list_any test' (set vs i w) ≡ true
 any_moved test test' vs i v w at own others some =
@@ -135,7 +136,7 @@ pub in_pair_second : (n s : ℕ) → 0 < count s (n ∷ s ∷ [])
 in_pair_second n s = omega (arith, in_one s [])
 
 module _ (z : Layout) (m : Memory) (vs : List View) (g : Meaning) (rule : Rule z m vs g) (gr : Graph) where
-  -- what one update took out no other one took out
+  -- what one update took out, no other one took out
   pub one_taker : (i j k : ℕ) (v u : View) → IsItem vs i v → IsItem vs j u → 0 < count k v.update.taken → 0 < count k u.update.taken → j ≡ i
   one_taker i j k v u at of some also =
       elim (eqb_tells j i) as (λ _. j ≡ i) [

@@ -1,4 +1,5 @@
--- At a node that a seat has locked before its raise no link is to be set, if it is the root or in the tree at the stamp.
+-- At a node that a seat has locked before its raise no link is to be set, if it is the root or in the tree at the
+-- stamp.
 use Rattle.std.proofs.Common.{◌≡◌, ℕ, ◌<◌, ◌⊎◌, List, [], ◌∷◌, true, eqb, arith, refl, sym, subst, inl, inr, Option, Some, None}
 use Rattle.std.specs.Prelude.{IfSome}
 use Rattle.std.specs.List.{list_any, sum_by}

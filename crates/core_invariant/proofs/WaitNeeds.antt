@@ -131,7 +131,7 @@ can_set z m v k side child met =
     let four = and_parts a b three.0 in
     record { locked = locks-count k v.held.nodes four.0; nothing = four.1; sets = three.1; order = two.1; unlinks = one.1 }
 
--- where nothing is pending there is no pending entry, and each node that the update took out is marked, or is the
+-- if nothing is pending there is no pending entry, and each node that the update took out is marked, or is the
 -- successor
 pub record NothingPending (m : Memory) (u : Updating) : Type 0 where
   pub pending : u.pending ≡ []
@@ -150,7 +150,7 @@ nothing_is m v is =
           ];
     }
 
--- what is done at a node is no successor that is still to be unlinked
+-- the node of the event is no successor that is still to be unlinked
 pub unlinked_is : (k : ℕ) (u : Updating) → is_done_at k u ≡ true → is_successor k u.unlinking ≡ false
 unlinked_is k u done = not_true (is_successor k u.unlinking) (last_true _ (not (is_successor k u.unlinking)) done)
   where

@@ -1,4 +1,4 @@
--- A view that waits outside of a section holds nothing of any batch: what it has locked was taken out by it and not
+-- A view that waits outside of a section holds nothing of any batch: what it has locked was taken out by it and has not
 -- been taken as a batch since, or is the root or in the tree.
 use Rattle.std.proofs.Common.{◌≡◌, ℕ, ◌+◌, ◌<◌, ◌≤◌, ◌⊎◌, cond, List, [], ◌∷◌, ◌++◌, Bool, true, false, eqb, arith, refl, ap, sym, subst, inl, inr, Option, Some, None}
 use Rattle.std.specs.Prelude.{IfSome}

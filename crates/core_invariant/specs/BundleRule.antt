@@ -23,7 +23,7 @@ IsLive z vs k = (k ≤ z.nodes) × (sum_by (own_free nodes_of k) vs ≡ 0)
 abbrev pub pending_count : ℕ → View → ℕ
 pending_count e v = count e v.update.pending
 
--- just one view has the entry pending, and that view works on the node
+-- exactly one view has the entry pending, and that view works on the node
 abbrev pub IsPendingAt : List View → ℕ → ℕ → Type 0
 IsPendingAt vs k e = (sum_by (pending_count e) vs ≡ 1) × All (λ v. 0 < pending_count e v → 0 < count k (work_nodes v)) vs
 
@@ -32,7 +32,7 @@ abbrev pub Falls : (ℕ → ℕ) → ℕ → List ℕ → Type 0
 Falls number top [] = Unit {0}
 Falls number top (e ∷ es) = (number e < top) × Falls number (number e) es
 
--- each entry behind the first has a written number
+-- each entry after the first has a written number
 abbrev pub TailWritten : (ℕ → ℕ) → List ℕ → Type 0
 TailWritten stamp [] = Unit {0}
 TailWritten stamp (e ∷ es) = Every (λ x. 0 < stamp x) es
@@ -63,7 +63,7 @@ pub record IsHeadOf (z : Layout) (head : Side → ℕ → ℕ) (nodes : List ℕ
   pub some : 0 < e
   pub of : 0 < count node nodes
 
--- a pending entry has no written number; it has the number of the raise, where that has happened
+-- a pending entry has no written number; it has the number of the raise, if that has happened
 abbrev pub IsPending : Layout → (Side → ℕ → ℕ) → (ℕ → ℕ) → (ℕ → ℕ) → View → ℕ → Type 0
 IsPending z head stamp number v e = (stamp e ≡ 0) × (number e ≡ shown v.update.raised) × IsHeadOf z head (work_nodes v) e
 

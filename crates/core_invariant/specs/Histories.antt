@@ -9,7 +9,7 @@ use Rattle.index_words.specs.declared.view.history.EndedPlace.{EndedPlace}
 use Rattle.key_map.specs.Lists.{count, Every, IsItem}
 use Rattle.core_links.specs.Bundle.{no_number}
 
--- a place that was given up to a view is of a pass whose number it has been given
+-- a place that was given up to a view is of a pass whose number the view was given
 abbrev pub IsGiven : List ℕ → EndedPlace → Type 0
 IsGiven ended p = 0 < count p.pass ended
 
@@ -55,8 +55,8 @@ pub record KnowsAll (updates : List Update) (vs : List View) : Type 0 where
   pub at : IsItem vs place view
   pub all : view.history.seen ≡ updates
 
--- the history has as many updates as the stamp says, and some view knows it whole; each update is made by a
--- pass of the table, and its place stands with that pass's view or with the one to which it was given up
+-- the history has as many updates as the stamp says, and some view knows it whole; each update is made by a pass of the
+-- table, and its place is with that pass's view or with the one to which it was given up
 pub record HistoryRight (z : Layout) (s : ℕ) (updates : List Update) (vs : List View) : Type 0 where
   pub long : length updates ≡ s
   pub known : KnowsAll updates vs

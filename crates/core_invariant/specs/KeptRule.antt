@@ -1,4 +1,4 @@
--- The rule after an allowed event, kind by kind. The crates of the kinds show it of theirs.
+-- The rule after an allowed event, kind by kind. Each crate of kinds of events proves it for its kinds.
 use Rattle.std.specs.Prelude.{◌≡◌, ℕ, List, true, false, Option, Some, length}
 use Rattle.index_words.specs.declared.layout.Layout.{Layout}
 use Rattle.key_map.specs.declared.update.Update.{Update}

@@ -1,3 +1,5 @@
+-- The definitions of this crate, by file.
+
 pub mod Meanings
 pub mod MeaningMoves
 pub mod Numbers

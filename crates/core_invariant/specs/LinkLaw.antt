@@ -45,7 +45,7 @@ SelectsSame z read vs g ws h =
     (t k : ℕ) (side : Side) → read t → IsLive z vs k → IsLive z ws k
     → select g.bundles.number t (g.bundles.bundle side k) ≡ select h.bundles.number t (h.bundles.bundle side k)
 
--- the rule holds after an event, under a meaning that selects the same, and so does what is said of plain links; where the
+-- the rule holds after an event, under a meaning that selects the same, and so does what is said of plain links; if the
 -- stamp does not rise, the tree at the stamp is the same
 pub record Kept (z : Layout) (m : Memory) (vs : List View) (g : Meaning) (m' : Memory) (ws : List View) : Type 0 where
   pub meaning : Meaning

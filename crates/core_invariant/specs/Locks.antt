@@ -29,7 +29,7 @@ NamesHolder word (Some n) = word ≡ n + 1
 abbrev pub LocksRight : Layout → (ℕ → ℕ) → View → Type 0
 LocksRight z lock v = (k : ℕ) → 0 < lock_count k v → (k ≤ z.nodes) × NamesHolder (lock k) v.number
 
--- a head as it was loaded is what the word holds, and so is a written number beside it
+-- a head as it was loaded is what the word holds, and a written number that was loaded with it is still the entry's
 abbrev pub HeadRight : ℕ → (ℕ → ℕ) → LoadedHead → Type 0
 HeadRight head stamp loaded = (head ≡ loaded.entry) × IfSome loaded.stamp (λ x. 0 < x → stamp loaded.entry ≡ x)
 
@@ -56,8 +56,8 @@ IsNodeAt m =
     NodeRight (λ k. m (Node Key k)) (λ k. m (Node Val k)) (λ k. m (Node Mark k)) (λ s k. m (Node (Head s) k)) (λ s k. m (Node (Link s) k))
     (λ s k. m (Node (Tag s) k)) (λ e. m (Entry Number e))
 
--- a next word as it was loaded is what the word holds, and so is a written number beside it; its entry stands in a bundle
--- of the locked node
+-- a next word as it was loaded is what the word holds, and a written number that was loaded with it is still the
+-- entry's; its entry stands in a bundle of the locked node
 pub record NextRight (stamp next : ℕ → ℕ) (b : Bundles) (nodes : List HeldNode) (h : HeldNext) : Type 0 where
   pub is : next h.entry ≡ h.next
   pub locked : 0 < count h.node (held_slots nodes)
@@ -81,8 +81,8 @@ IsTakenOutOf raised out locked k = (is_some raised ≡ true) × (0 < count k out
 abbrev pub IsTakenOut : View → ℕ → Type 0
 IsTakenOut v k = IsTakenOutOf v.update.raised v.update.taken (held_slots v.held.nodes) k
 
--- a retired node is marked, but for one whose update has still to mark it; a node of a batch is marked; and
--- what the update took out is retired
+-- a retired node is marked, except one whose update still has to mark it; a node of a batch is marked; and what the
+-- update took out is retired
 pub record MarksRightOf (mark : ℕ → ℕ) (retired_nodes batch_nodes : List ℕ) (raised : Option ℕ) (out locked : List ℕ) : Type 0 where
   pub retired : (k : ℕ) → 0 < count k retired_nodes → (mark k ≡ 1) ⊎ IsTakenOutOf raised out locked k
   pub batch : (k : ℕ) → 0 < count k batch_nodes → mark k ≡ 1

@@ -1,5 +1,5 @@
--- The rule on pass numbers: each is the number of one view, or was given up to one view, or is still to be
--- given by one view.
+-- The rule on pass numbers: each is the number of one view, or was given up to one view, or one view still has to give
+-- it.
 use Rattle.std.specs.Prelude.{◌≡◌, ℕ, ◌+◌, List, cond, nat_lt, sum_by}
 use Rattle.index_words.specs.declared.layout.Layout.{Layout}
 use Rattle.index_words.specs.declared.view.View.{View}

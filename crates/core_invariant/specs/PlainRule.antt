@@ -1,6 +1,6 @@
--- The rule on plain links, link by link: each link of the tree at the stamp leads where the tree does, but where an update
--- that has raised has still to set it. What is reached by plain links from the root is not told yet: as long as updates
--- search through bundles, a new node may be locked and changed before it is linked.
+-- The rule on plain links, link by link: each link of the tree at the stamp leads where the tree does, unless an update
+-- that has raised still has to set it. This file does not say what plain links reach from the root; `PlainTree.antt`
+-- and `Reached.antt` do.
 use Rattle.std.specs.Prelude.{◌≡◌, ℕ, ◌+◌, ◌<◌, ◌≤◌, ◌==◌, List, [], length, cond, None, All, sum_by, filter}
 use Rattle.index_words.specs.declared.side.Side.{Side}
 use Rattle.index_words.specs.declared.side.Side.TheVariants.{Right}
@@ -19,7 +19,7 @@ use Rattle.core_trees.specs.LinkSteps.{IsLinkIn}
 use Rattle.core_events.specs.PlainNeeds.{is_link_of, is_owed_at}
 use Rattle.core_invariant.specs.Meanings.{Meaning}
 
--- how often a view has still to set the link, and to raise its tag
+-- how often a view still has to set the link, and to raise its tag
 abbrev pub unset_count : ℕ → Side → View → ℕ
 unset_count k side v = length (filter (is_link_of k side) v.update.unset)
 
@@ -41,8 +41,8 @@ greatest_in number s es = cond (select number s es == 0) 0 (number (select numbe
 abbrev pub greatest_of : Bundles → ℕ → Side → ℕ → ℕ
 greatest_of b s side k = greatest_in b.number s (b.bundle side k)
 
--- a link that is still to be set is one of the tree, whose node the seat has locked. It leads where it led before the raise,
--- and is to lead where the tree does
+-- a link that is still to be set is one of the tree, whose node the seat has locked. It leads where it led before the
+-- raise, and is to lead where the tree does
 pub record UnsetRight (link child : Side → ℕ → ℕ) (tree : NamedTree) (locked : List ℕ) (u : UnsetLink) : Type 0 where
   pub there : IsLinkIn 0 Right tree u.node u.side
   pub held : 0 < count u.node locked

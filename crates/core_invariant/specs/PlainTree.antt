@@ -1,5 +1,5 @@
--- The rule on the plain tree, which the plain links spell from the root on: how it stands to the tree at the stamp, and what is
--- known of the updates that have still to set links of it.
+-- The rule on the plain tree, which the plain links spell from the root on: how it differs from the tree at the stamp,
+-- and what is known of the updates that still have to set links of it.
 use Rattle.std.specs.Prelude.{◌≡◌, ℕ, ◌<◌, ◌⊎◌, List, [], ◌∷◌, Bool, false, ◌==◌, ◌&&◌, ◌||◌, Option, Some, None, IfSome, true, All}
 use Rattle.std.specs.List.{list_any}
 use Rattle.index_words.specs.declared.side.Side.{Side}
@@ -25,8 +25,8 @@ is_item k side was child u = is_link_of k side u && u.was == was && u.child == c
 abbrev pub is_copied : ℕ → ℕ → UnsetLink → Bool
 is_copied removed copy u = u.was == removed && u.child == copy
 
--- The right link of a copy passes over a successor that was the right child of the removed node, as long as the copy is not
--- linked; `right` is what the right links hold.
+-- The right link of a copy passes over a successor that was the right child of the removed node, as long as the copy is
+-- not linked; `right` is what the right links hold.
 abbrev pub passes_over : List ℕ → Option Unlinking → List UnsetLink → (ℕ → ℕ) → ℕ → Side → ℕ → ℕ → Bool
 passes_over (removed ∷ successor ∷ []) None us right k Right was child = list_any (is_copied removed k) us && was == successor && child == right k
 passes_over taken unlinking us right k side was child = false
@@ -45,7 +45,7 @@ abbrev pub copies : List ℕ → ℕ → ℕ → Bool
 copies (removed ∷ successor ∷ []) n s = removed == n && successor == s
 copies taken n s = false
 
--- what the updates of the views have still to do
+-- what the updates of the views still have to do
 abbrev pub undone : Graph → List View → Undone
 undone g vs = record {
   unset = λ k side was child. list_any (sets_link (g.child Right) k side was child) vs;
@@ -64,21 +64,21 @@ abbrev pub IsSecondOut : List ℕ → ℕ → Type 0
 IsSecondOut (n ∷ s ∷ []) was = was ≡ s
 IsSecondOut taken was = ⊥
 
--- the child of a link that is to be set is the node that the update brings in, in the place of the first one taken out, and is
--- not in the plain tree yet
+-- the child of a link that is to be set is the node that the update brings in, in the place of the first one taken out,
+-- and is not in the plain tree yet
 pub record BringsChild (plain : NamedTree) (taken : List ℕ) (added : Option ℕ) (was child : ℕ) : Type 0 where
   pub brought : added ≡ Some child
   pub some : 0 < child
   pub new : occurs child plain ≡ 0
   pub first : IsFirstOut taken was
 
--- or it is another one, and there already, or none
+-- or it is another one, and already there, or none
 pub record HasChild (plain : NamedTree) (added : Option ℕ) (child : ℕ) : Type 0 where
   pub other : ¬ (added ≡ Some child)
   pub there : (child ≡ 0) ⊎ (0 < occurs child plain)
 
--- A copy whose successor was the right child of the removed node. The successor has no left child, and what hangs behind it
--- hangs at the copy too.
+-- A copy whose successor was the right child of the removed node. The successor has no left child, and what hangs below
+-- it hangs at the copy too.
 pub record CopiesNear (g : Graph) (plain : NamedTree) (removed successor copy : ℕ) : Type 0 where
   pub some : 0 < successor
   pub there : 0 < copy
@@ -93,8 +93,8 @@ abbrev pub NearRight : Graph → NamedTree → List ℕ → Option Unlinking →
 NearRight g plain (removed ∷ successor ∷ []) None was child = was ≡ removed → CopiesNear g plain removed successor child
 NearRight g plain taken unlinking was child = Unit {0}
 
--- A link that is still to be set: what it leads to until then was taken out by the update. A successor is unlinked at the
--- link that the view has noted, and where another one is to be set no look of the wait was made.
+-- A link that is still to be set: the update took out what it leads to until then. A successor is unlinked at the link
+-- that the view has noted, and if another link is to be set no look of the wait was made.
 pub record ItemRight (g : Graph) (plain : NamedTree) (taken : List ℕ) (added : Option ℕ) (unlinking : Option Unlinking) (waiting : Looks) (u : UnsetLink) : Type 0 where
   pub goes : (u.was ≡ 0) ⊎ (0 < count u.was taken)
   pub moves : ¬ (u.was ≡ u.child)
@@ -108,8 +108,8 @@ abbrev pub AreApart : List ℕ → Type 0
 AreApart (n ∷ s ∷ []) = ¬ (n ≡ s)
 AreApart taken = Unit {0}
 
--- one seat: a node of the tree at the stamp that it has locked is in the plain tree; a successor that is to be unlinked is one
--- that its update took out, and before the raise none was
+-- one seat: a node of the tree at the stamp that it has locked is in the plain tree; a successor that is to be unlinked
+-- was taken out by its update, and before the raise nothing was taken out
 pub record SeatInTree (g : Graph) (plain now : NamedTree) (v : View) : Type 0 where
   pub locked : (k : ℕ) → IsLocked v k → 0 < occurs k now → 0 < occurs k plain
   pub items : Every (ItemRight g plain v.update.taken v.update.added v.update.unlinking v.update.waiting) v.update.unset

@@ -1,5 +1,5 @@
--- The rule on what searches on plain links reach. A seat inside a section holds each node to which plain links lead from where
--- its search stands, last turned, or found a link that it remembers: none of these nodes may be used again.
+-- The rule on what searches on plain links reach. A seat inside a section holds each node to which plain links lead
+-- from where its search stands, last turned, or found a link that it remembers: none of these nodes may be reused.
 use Rattle.std.specs.Prelude.{◌≡◌, ℕ, ◌<◌, ◌≤◌, List, Bool, false, not, ◌==◌, ◌&&◌, ◌||◌, Option, Some, None, All, sum_by}
 use Rattle.std.specs.List.{list_any}
 use Rattle.index_words.specs.declared.layout.Layout.{Layout}
@@ -38,8 +38,8 @@ abbrev pub has_let : Looks → Option ℕ → ℕ → Bool
 has_let looks None word = false
 has_let looks (Some pass) word = has pass looks.passed || list_any (is_late pass word) looks.found
 
--- Each node that is held so is one of the table. None is free, nor in the own batch, nor in the batch of a seat that has let
--- this one pass; and before its raise the seat holds none that it has retired itself.
+-- Each node that is held so is one of the table. None is free, nor in the seat's own batch, nor in the batch of a seat
+-- that has passed this one; and before its raise the seat holds none that it has retired itself.
 pub record ReachesRight (z : Layout) (g : Graph) (vs : List View) (v : View) : Type 0 where
   pub there : (k : ℕ) → HoldsPlain g v k → k ≤ z.nodes
   pub unheld : (k : ℕ) → HoldsPlain g v k → sum_by (own_free nodes_of k) vs ≡ 0

@@ -35,13 +35,12 @@ IsLocked v k = 0 < count k (held_slots v.held.nodes)
 abbrev pub IsWatched : View → ℕ → Type 0
 IsWatched v k = IsLocked v k ⊎ (is_some v.reading.section ≡ true)
 
--- the entry's number is written, and below that of the entry which the seat left behind for it, where that was loaded and
--- written
+-- the entry's number is written, and below that of the entry which the seat left for it, if that was loaded and written
 abbrev pub IsBelow : (ℕ → ℕ) → ℕ → Option ℕ → Type 0
 IsBelow stamp e above = IfSome above (λ x. 0 < x → (0 < stamp e) × (stamp e < x))
 
--- the entry stands in the bundle, and each entry in front of it is one that the seat may be past; a number that was
--- found in its stamp is still there, and it is below the number of the entry left behind
+-- the entry stands in the bundle, and each entry before it is one that the seat may be past; a number that was found in
+-- its stamp is still there, and it is below the number of the entry left for it
 pub record StandsAt (stamp : ℕ → ℕ) (es : List ℕ) (e : ℕ) (loaded above : Option ℕ) (unread : ℕ → Type 0) : Type 0 where
   pub front : List ℕ
   pub back : List ℕ
@@ -54,7 +53,7 @@ pub record StandsAt (stamp : ℕ → ℕ) (es : List ℕ) (e : ℕ) (loaded abov
 abbrev pub IsPassed : (ℕ → ℕ) → View → ℕ → ℕ → Type 0
 IsPassed number v node e = IfSome v.reading.section (λ t. IsLocked v node ⊎ (t < number e))
 
--- a place in a bundle, over what its node and its bundle are to the seat: the node is reachable, and where the seat
+-- a place in a bundle, over what its node and its bundle are to the seat: the node is reachable, and if the seat
 -- watches it the entry stands in the bundle
 pub record EntryPlace (reachable watched : Type 0) (stamp : ℕ → ℕ) (es : List ℕ) (entry : ℕ) (found above : Option ℕ) (unread : ℕ → Type 0) : Type 0 where
   pub reach : reachable
@@ -66,18 +65,18 @@ PlaceRight z stamp b v (Entry node side entry found) =
     EntryPlace (IsReachable z v node) (IsWatched v node) stamp (b.bundle side node) entry found v.reading.above (IsPassed b.number v node)
 PlaceRight z stamp b v _ = Unit {0}
 
--- a link is remembered with the entry that the section number selects, and with its child; without a section
--- number with neither
+-- a link is remembered with the entry that the section number selects, and with its child; without a section number
+-- with neither
 abbrev pub EntryRight : (ℕ → ℕ) → (ℕ → ℕ) → List ℕ → Option ℕ → ℕ → ℕ → Type 0
 EntryRight child number es None c entry = (entry ≡ 0) × (c ≡ 0)
 EntryRight child number es (Some t) c entry = (select number t es ≡ entry) × (child_of_entry child entry ≡ c)
 
--- a link that was found through its bundle: its node is reachable, and it is remembered so
+-- a link that was found through its bundle: its node is reachable, and the link is remembered as said
 pub record BundleLink (reachable : Type 0) (child number : ℕ → ℕ) (es : List ℕ) (section : Option ℕ) (c entry : ℕ) : Type 0 where
   pub reach : reachable
   pub selected : EntryRight child number es section c entry
 
--- nothing is said yet of a link that was found as a plain one
+-- nothing is said here of a link that was found as a plain one
 abbrev pub SourceRight : Type 0 → (ℕ → ℕ) → (ℕ → ℕ) → List ℕ → Option ℕ → ℕ → LinkSource → Type 0
 SourceRight reachable child number es section c (Bundle entry) = BundleLink reachable child number es section c entry
 SourceRight reachable child number es section c (Plain tag above below) = Unit {0}

@@ -1,5 +1,5 @@
--- The rule of the table, in its parts. It speaks of no seat's number, so it is the rule of the pure machine
--- and of the running table alike.
+-- The rule of the table, in its parts. It mentions no particular seat's number, so it is the rule both of the pure
+-- machine and of the running table.
 use Rattle.std.specs.Prelude.{◌≡◌, ℕ, ◌≤◌, ◌==◌, List, length, cond, All, sum_by}
 use Rattle.index_words.specs.declared.layout.Layout.{Layout}
 use Rattle.index_words.specs.declared.side.Side.{Side}
@@ -44,11 +44,12 @@ pub record Rule (z : Layout) (m : Memory) (vs : List View) (g : Meaning) : Type 
   pub single : (e : ℕ) → sum_by (pending_count e) vs ≤ 1
   pub seats : All (SeatRight z m g) vs
 
--- a table that meets the rule, whose plain links lead where they should, one by one and as a tree, whose searches on them claim
--- what is so, reach no node that may be used again, and have below their turns what they come to; where nodes leave the plain
--- tree marked, and those that are brought in are linked last; where nothing moves if there is one pass alone, but what its seat
--- has set itself; where nothing is left of a view that was joined into another one, no word of a number that is still to be given
--- is used, each view knows where its own updates stand, its slots wait as they should, and those that it never used hold 0
+-- A table that meets the rule. Its plain links lead where they should, one by one and as a tree. Searches on them claim
+-- only what holds, reach no node that may be reused, and have what they reach below their turns. Nodes are marked
+-- before they leave the plain tree, and nodes that are brought in are linked last. If there is one pass alone, nothing
+-- changes except what its seat has set itself. Nothing is left of a view that was joined into another one, and no word
+-- of a number that is still to be given is used. Each view knows where its own updates stand, its slots wait as they
+-- should, and those that it never used hold 0.
 pub record InRule (z : Layout) (words : List ℕ) (vs : List View) : Type 0 where
   pub size : length words ≡ word_count z
   pub meaning : Meaning

@@ -1,5 +1,5 @@
--- The rule on searches on plain links: what a seat may claim of the node at which its search stands, and of the null links
--- that it remembers.
+-- The rule on searches on plain links: what a seat may claim of the node at which its search stands, and of the null
+-- links that it remembers.
 use Rattle.std.specs.Prelude.{◌≡◌, ℕ, ◌<◌, List, Bool, false, not, ◌==◌, ◌&&◌, Option, Some, None, IfSome}
 use Rattle.std.specs.List.{list_any}
 use Rattle.index_words.specs.declared.side.Side.{Side}
@@ -27,7 +27,7 @@ abbrev pub unlinks : ℕ → ℕ → Option Unlinking → Bool
 unlinks removed successor None = false
 unlinks removed successor (Some u) = u.replaced == removed && u.successor == successor
 
--- the second view's removal has still to unlink the successor, and has not passed the first view since
+-- the second view's removal still has to unlink the successor, and has not passed the first view since
 abbrev pub waits_for : View → ℕ → ℕ → View → Bool
 waits_for v removed successor w = unlinks removed successor w.update.unlinking && not (has_let w.update.waiting v.number v.section_word)
 
@@ -57,7 +57,7 @@ abbrev pub PlaceKey : (ℕ → ℕ) → Place → Type 0
 PlaceKey key_of (AtNode node key) = (0 < node) × IfSome key (λ x. key_of node ≡ x)
 PlaceKey key_of _ = Unit {0}
 
--- the node of a plain link is the turn of that side, but for the root, which uses its right link alone
+-- the node of a plain link is the turn of that side, except the root, which uses its right link alone
 abbrev pub SourceKeys : (ℕ → ℕ) → ℕ → Side → LinkSource → Type 0
 SourceKeys key_of node side (Bundle entry) = Unit {0}
 SourceKeys key_of node side (Plain tag above below) = (node ≡ 0 → side ≡ Right) × (¬ (node ≡ 0) → turn_of side below above ≡ Some (key_of node))
@@ -65,8 +65,8 @@ SourceKeys key_of node side (Plain tag above below) = (node ≡ 0 → side ≡ R
 abbrev pub LinkKeys : (ℕ → ℕ) → Link → Type 0
 LinkKeys key_of l = SourceKeys key_of l.node l.side l.source
 
--- One seat. Of the nodes that its search reaches, those of the tree at the stamp are in the plain tree. Before its raise it
--- claims what a search may claim.
+-- One seat. Of the nodes that its search reaches, those of the tree at the stamp are in the plain tree. Before its
+-- raise it claims only what a search may claim.
 pub record SearchRight (g : Graph) (vs : List View) (now plain : NamedTree) (v : View) : Type 0 where
   pub ahead : (k : ℕ) → HoldsPlain g v k → 0 < occurs k now → 0 < occurs k plain
   pub key : PlaceKey g.key v.reading.place

@@ -1,6 +1,6 @@
--- The rule on section words: a view holds what its own words are; outside a section it has read nothing, and has
--- locked nothing but at the wait of a removal; with no lock held it has no update under way; and inside a section it
--- has no looks of a wait.
+-- The rule on section words: a view holds what its own words are; outside a section it has read nothing, and has locked
+-- nothing except at the wait of a removal; with no lock held it has no update under way; and inside a section it has no
+-- looks of a wait.
 use Rattle.std.specs.Prelude.{◌≡◌, ℕ, ◌<◌, ◌⊎◌, List, [], true, false, Option, Some, None, is_some}
 use Rattle.index_words.specs.declared.view.View.{View}
 use Rattle.index_words.specs.declared.view.reading.Reading.{Reading}
@@ -37,8 +37,8 @@ pub record Waits (number : Option ℕ) (nodes : List HeldNode) (raised added : O
 abbrev pub IsWaiting : View → Type 0
 IsWaiting v = Waits v.number v.held.nodes v.update.raised v.update.added v.update.pending v.update.taken
 
--- over what the section words and the announcements of the passes hold, and over what of a view is read: its number, its
--- own two words, what it has read and locked, and its update
+-- over what the section words and the announcements of the passes hold, and over what of a view is read: its number,
+-- its own two words, what it has read and locked, and its update
 pub record SectionRightOf (section_of announced_of : ℕ → ℕ) (number : Option ℕ) (word announcement : ℕ) (reading : Reading) (nodes : List HeldNode)
     (update : Updating) : Type 0 where
   pub section : IsOwnWord section_of number word

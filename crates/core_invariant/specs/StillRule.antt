@@ -1,4 +1,5 @@
--- The rule on a table of one pass: as long as the only seat that may read has not raised, nothing moves; and what it sets itself it knows.
+-- The rule on a table of one pass: as long as the only seat that may read has not raised, nothing changes; and it knows
+-- what it has set itself.
 use Rattle.std.specs.Prelude.{◌≡◌, ℕ, ◌<◌, ◌⊎◌, List, true, false, None, IfSome}
 use Rattle.index_words.specs.declared.layout.Layout.{Layout}
 use Rattle.index_words.specs.declared.side.Side.{Side}
@@ -23,7 +24,8 @@ IsSourceStill link tag child (Plain found above below) = (link ≡ child) × IfS
 abbrev pub IsLinkStill : Graph → (Side → ℕ → ℕ) → ViewLink → Type 0
 IsLinkStill g tag l = IsSourceStill (g.child l.side l.node) (tag l.side l.node) l.child l.source
 
--- the plain links that it remembers are as they were found, and the nodes of its search, but for the root, are in the plain tree
+-- the plain links that it remembers are as they were found, and the nodes of its search, except the root, are in the
+-- plain tree
 pub record StaysStill (g : Graph) (tag : Side → ℕ → ℕ) (plain : NamedTree) (v : View) : Type 0 where
   pub links : Every (IsLinkStill g tag) v.reading.links
   pub there : (k : ℕ) → 0 < k → 0 < count k (search_nodes 0 v.reading) → 0 < occurs k plain

@@ -13,7 +13,7 @@ IsNameless v = (v.number ≡ None) × (v.history.ended ≡ [])
 abbrev pub HasNoneWaiting : View → Type 0
 HasNoneWaiting v = (v.retired ≡ no_slots) × (v.batch ≡ no_slots)
 
--- a view neither reads nor works on a node of its own batch; and slots wait in a view only where it has a pass number, or
+-- a view neither reads nor works on a node of its own batch; and slots wait in a view only if it has a pass number, or
 -- was given one
 pub record WaitsRightOf (number : Option ℕ) (ended : List ℕ) (retired batch : Slots) (held : List ℕ) : Type 0 where
   pub apart : (k : ℕ) → 0 < count k batch.nodes → 0 < count k held → ⊥

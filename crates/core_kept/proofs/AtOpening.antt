@@ -62,7 +62,7 @@ use Rattle.core_invariant.specs.SpentViews.{IsSpent}
 use Rattle.core_invariant.proofs.SpentViews.{live_spent}
 use Rattle.core_invariant.proofs.Idle.{idle_nodes, idle_entry}
 
--- 1 for a number from `first` on, and 0 for another one
+-- 1 for a number from `first` on, and 0 for any other one
 abbrev pub between : ℕ → ℕ → ℕ → ℕ
 between x first n = cond (leb first x && ltb x (first + n)) 1 0
 

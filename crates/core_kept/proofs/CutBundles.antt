@@ -23,7 +23,7 @@ count_kept : (x e : ℕ) (front back es : List ℕ) (c : Bool) → (c ≡ true �
 count_kept x e front back es true splits = count_upto x e front back ∙ sym (ap (count x) (splits refl))
 count_kept x e front back es false splits = omega arith
 
--- of the node's entries those behind are gone, and of no other node's
+-- the node's entries after it are gone, and no other node's are
 count_cut : (b : Bundles) (side : Side) (k e : ℕ) (front back : List ℕ) → b.bundle side k ≡ front ++ e ∷ back → (j x : ℕ)
     → count x (entries_of (cut_bundles b side k e front) j) + cond (eqb j k) (count x back) 0 ≡ count x (entries_of b j)
 count_cut b Left k e front back splits j x =
@@ -96,7 +96,7 @@ module _ (b : Bundles) (side : Side) (k e : ℕ) (front back : List ℕ) (splits
         | inr other ↦ omega (arith, cut_elsewhere x j other.1, linked_elsewhere x ks (omega (arith, none)))
       ]
 
-  -- where the node is linked once, the entries behind are linked once less
+  -- where the node is linked once, the entries after it are linked once less
   pub linked_cut : (x : ℕ) (ks : List ℕ) → count k ks ≡ 1 → linked_in c x ks + count x back ≡ linked_in b x ks
   linked_cut x [] once = absurd (omega (arith, once))
   linked_cut x (j ∷ ks) once =
@@ -105,7 +105,8 @@ module _ (b : Bundles) (side : Side) (k e : ℕ) (front back : List ℕ) (splits
         | inr other ↦ omega (arith, cut_elsewhere x j other.1, linked_cut x ks (rest_once k j ks other.1 once))
       ]
 
-  -- a seat whose section number is from the entry's on reads no more entries than before, and none stands in more bundles
+  -- a seat whose section number is from the entry's on reads no more entries than before, and none stands in more
+  -- bundles
   pub reads_fewer : (section : Option ℕ) (nodes : List ℕ) (x : ℕ) → IfSome section (λ t. b.number e ≤ t) → ReadsAt c section nodes x → ReadsAt b section nodes x
   reads_fewer None nodes x low reads = absurd reads
   reads_fewer (Some t) nodes x low reads = record {

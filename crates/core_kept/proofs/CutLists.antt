@@ -1,4 +1,4 @@
--- Lists of entries from which what stands behind one of them is cut off.
+-- Lists of entries, cut off after one of them.
 use Rattle.std.proofs.Common.{◌≡◌, ℕ, ◌+◌, ◌<◌, ◌≤◌, cond, List, [], ◌∷◌, ◌++◌, leb, arith, ap, ◌∙◌, sym, subst}
 use Rattle.std.proofs.lemmas.Bool.{le-leb}
 use Rattle.key_map.specs.Lists.{count, Every}
@@ -31,7 +31,7 @@ chain_upto next next' head e (x ∷ front) back same last chain = (
       (chain_upto next next' (next x) e front back (λ d within. same d (omega (arith, within))) last chain.2),
 )
 
--- a reader at a number from the entry's on reads nothing behind it
+-- a reader at a number from the entry's on reads nothing after it
 pub read_upto : (number : ℕ → ℕ) (t e : ℕ) (front back : List ℕ) → number e ≤ t → read_at number t (front ++ e ∷ back) ≡ read_at number t (front ++ e ∷ [])
 read_upto number t e [] back low =
     ap (λ b. e ∷ cond b [] (read_at number t back)) (le-leb (number e) t low) ∙ sym (ap (λ b. e ∷ cond b [] []) (le-leb (number e) t low))
@@ -40,7 +40,7 @@ read_upto number t e (x ∷ front) back low = ap (λ rest. x ∷ cond (leb (numb
 pub count_upto : (x e : ℕ) (front back : List ℕ) → count x (front ++ e ∷ []) + count x back ≡ count x (front ++ e ∷ back)
 count_upto x e front back = omega (arith, count-append x front (e ∷ []), count-append x front (e ∷ back))
 
--- the entry `d` stands in the list behind these
+-- the entry `d` stands in the list after these
 pub record StandsBehind (es front : List ℕ) (d : ℕ) : Type 0 where
   pub back : List ℕ
   pub splits : es ≡ front ++ d ∷ back
@@ -51,7 +51,7 @@ stands_first e d same = record { back = []; splits = ap (λ x. x ∷ []) same }
 stands_later : (x y d : ℕ) (es front : List ℕ) → x ≡ y → StandsBehind es front d → StandsBehind (x ∷ es) (y ∷ front) d
 stands_later x y d es front same rest = record { back = rest.back; splits = ap (λ z. z ∷ es) same ∙ ap (λ zs. y ∷ zs) rest.splits }
 
--- one who has passed only entries with numbers above `t`, which the entry's is not, does not stand behind the entry
+-- a reader that has passed only entries with numbers above `t`, which the entry's is not, does not stand after it
 pub reader_stands : (number : ℕ → ℕ) (t e d : ℕ) (front back front' back' : List ℕ) → number e ≤ t → Every (λ x. t < number x) front'
     → front ++ e ∷ back ≡ front' ++ d ∷ back' → StandsBehind (front ++ e ∷ []) front' d
 reader_stands number t e d [] back [] back' low above same = let one : e ≡ d = cc in stands_first e d one

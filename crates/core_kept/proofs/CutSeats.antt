@@ -1,4 +1,4 @@
--- A cut keeps the rule: the bundle ends with the entry, and no seat reads, holds or knows of what stood behind it.
+-- A cut keeps the rule: the bundle ends with the entry, and no seat reads, holds or knows of what stood after it.
 use Rattle.std.proofs.Common.{◌≡◌, ℕ, suc, ◌<◌, ◌≤◌, ◌⊎◌, cond, List, [], ◌∷◌, ◌++◌, Bool, true, false, eqb, not, filter, map, set, arith, refl, ap, ◌∙◌, sym, subst, inl, inr, Option, Some, None}
 use Rattle.index_words.specs.declared.view.reading.Reading.{Reading}
 use Rattle.std.specs.Prelude.{IfSome}

@@ -1,5 +1,5 @@
--- The end of an update: its view has no plain link to set any more, and forgets what it has taken out. None of that is in the plain
--- tree, so the tree matches the tree at the stamp still, and searches claim and reach what they did.
+-- The end of an update: its view has no plain link to set any more, and forgets what it has taken out. None of that is
+-- in the plain tree, so the tree matches the tree at the stamp still, and searches claim and reach what they did.
 use Rattle.std.proofs.Common.{◌≡◌, ℕ, ◌<◌, ◌≤◌, ◌⊎◌, List, [], ◌∷◌, Bool, true, eqb, not, set, arith, refl, ap, ◌∙◌, sym, subst, inl, inr, Option, Some, None, IfSome}
 use Rattle.std.specs.List.{All, list_any}
 use Rattle.std.proofs.lemmas.Bool.{and_parts, eqb-true}

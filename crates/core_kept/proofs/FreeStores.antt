@@ -1,5 +1,5 @@
--- A store to a word of a free node: the node is not in the plain tree, and no search reaches it. So the plain tree stays, with what
--- searches claim and reach.
+-- A store to a word of a free node: the node is not in the plain tree, and no search reaches it. So the plain tree
+-- stays, with what searches claim and reach.
 use Rattle.std.proofs.Common.{◌≡◌, ℕ, ◌<◌, ◌⊎◌, List, [], ◌∷◌, ◌++◌, Bool, true, false, eqb, ◌||◌, not, arith, refl, ap, ◌∙◌, sym, subst, inl, inr, Option, Some, None, IfSome}
 use Rattle.std.specs.List.{All, list_any, flat_map}
 use Rattle.std.proofs.lemmas.Bool.{and_parts, eqb-true, cases_lt}

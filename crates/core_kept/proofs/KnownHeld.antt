@@ -1,4 +1,5 @@
--- What a seat knows of the plain links and the tags of the nodes that it has locked, where it loads or stores something else of them.
+-- What a seat knows of the plain links and the tags of the nodes that it has locked, where it loads or stores something
+-- else of them.
 use Rattle.std.proofs.Common.{◌≡◌, ℕ, ◌⊎◌, cond, List, [], ◌∷◌, ◌++◌, map, Bool, true, false, eqb, ◌&&◌, ◌||◌, refl, ap, ◌∙◌, sym, inl, inr, Some}
 use Rattle.std.specs.List.{list_any}
 use Rattle.std.proofs.lemmas.Bool.{and_parts, and_from, eqb-true, eq-eqb}
@@ -24,7 +25,8 @@ use Rattle.core_events.proofs.Tests.{never}
 use Rattle.core_invariant.specs.StillRule.{IsSourceKnown, IsLinkKnown}
 use Rattle.core_invariant.proofs.Frames.{every_map}
 
--- what is known with the second nodes is at least what is known with the first ones, of the words that the links and tags hold
+-- what is known with the second nodes is at least what is known with the first ones, of the words that the links and
+-- tags hold
 pub record KeepsKnown (g : Graph) (tag : Side → ℕ → ℕ) (hs hs' : List HeldNode) : Type 0 where
   pub links : (k : ℕ) (side : Side) → knows_link hs k side (g.child side k) ≡ true → knows_link hs' k side (g.child side k) ≡ true
   pub tags : (k : ℕ) (side : Side) → knows_tag hs k side (tag side k) ≡ true → knows_tag hs' k side (tag side k) ≡ true
@@ -71,7 +73,7 @@ pushed_known g tag hs h = record {
   tags = λ k side. any_pushed (λ (y : HeldNode). eqb y.node k && is_number (tag side k) (held_side side y).tag) hs h;
 }
 
--- what of a locked node is known of its plain links
+-- what is known of the plain links of a locked node
 pub record SamePlain (h h' : HeldNode) : Type 0 where
   pub node : h'.node ≡ h.node
   pub links : (side : Side) → (held_side side h').link ≡ (held_side side h).link
@@ -183,7 +185,7 @@ tag_test k side x j t y h same is = by side t (eqb h.node k) refl same is
     by Left Right true on same is = is
     by Right Left true on same is = is
 
--- of the tags nothing changes at a link, nor of the links at a tag
+-- at a link nothing changes of the tags, and at a tag nothing of the links
 link_tags : (k : ℕ) (side : Side) (x : ℕ) (h : HeldNode) (t : Side)
     → ((link_known_at k side x h).node ≡ h.node) × ((held_side t (link_known_at k side x h)).tag ≡ (held_side t h).tag)
 link_tags k side x h t = by side t (eqb h.node k)

@@ -1,4 +1,4 @@
--- The first view of a table put behind the others: the rule stays, since it names no seat by its place.
+-- The first view of a table put after the others: the rule stays, since it names no seat by its place.
 use Rattle.std.proofs.Common.{◌≡◌, ℕ, zero, suc, ◌+◌, ◌<◌, List, [], ◌∷◌, ◌++◌, Bool, true, false, length, get_or, arith, refl, ap, ◌∙◌, sym}
 use Rattle.std.specs.List.{All, sum_by, list_any}
 use Rattle.std.proofs.lemmas.List.{length-append, get_or_push}

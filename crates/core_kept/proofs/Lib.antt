@@ -38,10 +38,10 @@ pub mod MadeViews
 pub mod MadeSeats
 -- The table with the first view alone, which has all slots, calls and numbers, meets the rule.
 pub mod AtOpening
--- The first view of a table put behind the others: the rule stays, since it names no seat by its place.
+-- The first view of a table put after the others: the rule stays, since it names no seat by its place.
 pub mod LastView
 -- The table of the opening meets the rule: the seats of the passes are made one after another from the first view,
--- which then stands behind them.
+-- which then stands after them.
 pub mod Opened
 -- The laws on how seats are made, and on what a view knows that has every number.
 pub mod SeatLaws
@@ -57,6 +57,7 @@ pub mod LoadEntries
 -- A load that is allowed keeps the rule.
 pub mod StepLoads
 -- A move of one view that holds more, where nothing of it is free, and nothing of it waits in the batch of one
+-- who has let the view pass.
 pub mod Holding
 -- Try lock keeps the rule: a free lock word names the pass, and a held one stays.
 pub mod TryLocks
@@ -84,13 +85,13 @@ pub mod Prepare
 pub mod PrepareBundles
 -- Prepare: what a seat reads, and where it stands, once a free entry is put in front of a bundle.
 pub mod PreparePlaces
--- Prepare keeps the rule: a free entry, which has the old head behind it, becomes the head of a bundle.
+-- Prepare keeps the rule: a free entry, which has the old head after it, becomes the head of a bundle.
 pub mod PrepareSeats
 -- Finalise keeps the rule: the number of the raise is written into a pending entry.
 pub mod Finalise
 -- What the tree step of a raise makes true, apart from how its needs are computed.
 pub mod TreeMoved
--- What the tests of a new node tell, and the children, the selections and the bundles after a raise.
+-- What the tests of a new node say, and the children, the selections and the bundles after a raise.
 pub mod TreeAfter
 -- The needs of a tree step, as they are computed, and what they make true.
 pub mod TreeNeeds
@@ -107,10 +108,12 @@ pub mod RaiseSlots
 -- Raise, its part on the history: the update is the last of it, and the view that has made it knows it whole.
 pub mod RaiseHistory
 -- Raise, its part on numbers: the pending entries and those of the new node have the number of the raise, and what
+-- a number up to the stamp selects stays.
 pub mod RaiseNumbers
 -- Raise: the bundles. Those of live nodes keep their entries, and each bundle of the new node has its head alone.
 pub mod RaiseBundles
 -- Raise: the trees. A tree that a seat reads at an older number stays the one at that number, its null links are as
+-- wide in the new tree or wider, and the new tree is not marked.
 pub mod RaiseTrees
 -- Raise: the rule on each seat, the one that raises and each other one.
 pub mod RaiseSeats
@@ -119,6 +122,7 @@ pub mod RaiseLinks
 -- Raise: what is said of plain links.
 pub mod RaisePlain
 -- Raise keeps the rule: the stamp rises by one, the pending entries and those of the new node have that number, and
+-- the tree is the one after the update.
 pub mod Raise
 -- An event of an update that is allowed keeps the rule.
 pub mod StepUpdates
@@ -126,7 +130,7 @@ pub mod StepUpdates
 pub mod RaiseOwes
 -- A look at an announcement keeps the rule: where the pass has a section number, its announcement is at most that.
 pub mod LooksAtAnn
--- Lists of entries from which what stands behind one of them is cut off.
+-- Lists of entries, cut off after one of them.
 pub mod CutLists
 -- The bundles after a cut: what each number from the entry's on selects and reads, and which entries are linked.
 pub mod CutBundles
@@ -134,7 +138,7 @@ pub mod CutBundles
 pub mod CutSlots
 -- Where seats stand after a cut: one that reads, or works on the node, stands at no entry that is cut off.
 pub mod CutPlaces
--- A cut keeps the rule: the bundle ends with the entry, and no seat reads, holds or knows of what stood behind it.
+-- A cut keeps the rule: the bundle ends with the entry, and no seat reads, holds or knows of what stood after it.
 pub mod CutSeats
 -- A look at an announcement, or a cut, that is allowed keeps the rule.
 pub mod StepCuts
@@ -166,7 +170,7 @@ pub mod SearchSteps
 pub mod SearchMoves
 -- A search on plain links goes on by one link: what it claims then, and what it reaches.
 pub mod WalkSteps
--- A raise: what the update has to do comes to what others have to do, and the nodes that it has locked were settled.
+-- A raise: what the update has to do is added to what others have to do, and the nodes that it has locked were settled.
 pub mod RaiseTree
 -- A raised put of an absent key: its search on plain links has found the gap of the key in the plain tree.
 pub mod RaiseGap
@@ -176,7 +180,8 @@ pub mod RaisePuts
 pub mod RaiseRemoves
 -- The kinds of events that leave a view's search where it is, or end it.
 pub mod QuietKinds
--- The plain tree, what searches claim and what they reach, after the kinds of events that move no plain link of a linked node.
+-- The plain tree, what searches claim and what they reach, after the kinds of events that move no plain link of a
+-- linked node.
 pub mod SearchKept
 -- The same after the kinds of stores to other words than keys and plain links.
 pub mod SearchStores
@@ -192,7 +197,8 @@ pub mod SearchLocks
 pub mod SearchLeaves
 -- A seat that rests: it has nothing to do at plain links, searches for nothing, and reaches nothing.
 pub mod RestingSeats
--- The plain tree, what searches claim and what they reach, over another list of views: one with more views, or in another order.
+-- The plain tree, what searches claim and what they reach, over another list of views: one with more views, or in
+-- another order.
 pub mod OtherOrder
 -- A seat that is made, or split off: the plain tree stays, and with it what searches claim and what they reach.
 pub mod MadeSearches
@@ -207,7 +213,7 @@ pub mod RaiseSearches
 pub mod EndedUpdates
 -- The plain tree, what searches claim and what they reach, after an unlock.
 pub mod SearchUnlocks
--- A store to a word of a free node: the plain tree has it not, and no search reaches it.
+-- A store to a word of a free node: it is not in the plain tree, and no search reaches it.
 pub mod FreeStores
 -- The plain tree, what searches claim and what they reach, after a fill.
 pub mod SearchFills
@@ -215,7 +221,8 @@ pub mod SearchFills
 pub mod StampWords
 -- The plain tree, what searches claim and what they reach, after every event, over the tree that is at the stamp then.
 pub mod StepSearches
--- The plain tree, what searches claim and what they reach, where the retired slots become a batch, or a batch becomes free.
+-- The plain tree, what searches claim and what they reach, where the retired slots become a batch, or a batch becomes
+-- free.
 pub mod SearchLists
 -- A look at a section word lets nobody pass that is inside the section in which it was found.
 pub mod LooksLetting
@@ -229,13 +236,15 @@ pub mod SearchWaits
 pub mod SearchJoins
 -- What a seat knows of the plain links and the tags of the nodes that it has locked.
 pub mod KnownHeld
--- What is said of turns, of nodes that leave the plain tree, and of a table of one pass, where one view moves and the plain tree stays.
+-- What is said of turns, of nodes that leave the plain tree, and of a table of one pass, where one view moves and the
+-- plain tree stays.
 pub mod TurnFrames
 -- The same after the kinds of events that leave a view's turns and the plain tree as they are.
 pub mod TurnKinds
 -- The same after stores to other words than keys, values, plain links and tags, and after a try of a lock.
 pub mod TurnStores
--- The same where a view comes to stand nowhere, or to have read nothing, after a look at a section, and where seats are made or joined.
+-- The same where a view comes to stand nowhere, or to have read nothing, after a look at a section, and where seats are
+-- made or joined.
 pub mod TurnSeats
 -- The same after a load of a plain link: a search that stands there turns, and goes on.
 pub mod TurnWalks
@@ -249,7 +258,8 @@ pub mod TurnFills
 pub mod TurnRaises
 -- What is said of turns, of nodes that leave the plain tree, and of a table of one pass, after every event.
 pub mod StepTurns
--- As long as an entry is pending, the link to the node that an update has brought in is still to be set: after every event.
+-- As long as an entry is pending, the link to the node that an update has brought in is still to be set: after every
+-- event.
 pub mod LinkedLast
 
 -- Kinds that keep what is said of turns.

@@ -1,4 +1,5 @@
--- The links that are still to be set, by the view that has them: each is an item of the view, or one that passes over a successor.
+-- The links that are still to be set, by the view that has them: each is an item of the view, or one that passes over a
+-- successor.
 use Rattle.std.proofs.Common.{◌≡◌, ℕ, ◌<◌, cond, List, [], ◌∷◌, Bool, true, false, eqb, ◌&&◌, ◌||◌, arith, refl, sym, subst, inl, inr, filter, Option, None}
 use Rattle.std.specs.List.{list_any, sum_by}
 use Rattle.std.proofs.lemmas.Bool.{and_from, eq-eqb, cases_lt, or_left, or_right}
@@ -36,7 +37,7 @@ use Rattle.core_invariant.proofs.Undone.{Passing, any_item, PassesAt, passes_is,
 use Rattle.plain_trees.specs.Matching.{Undone, IsUnset}
 use Rattle.plain_trees.proofs.OneLink.{led-in, one-link}
 
--- an item of the list to which a test comes
+-- an item of the list that passes a test
 pub record AtItem (P : UnsetLink → Type 0) (us : List UnsetLink) (k : ℕ) (side : Side) (was child : ℕ) : Type 0 where
   pub item : UnsetLink
   pub right : P item

@@ -1,4 +1,5 @@
--- As long as an entry is pending, the link to the node that an update has brought in is still to be set: after every event.
+-- As long as an entry is pending, the link to the node that an update has brought in is still to be set: after every
+-- event.
 use Rattle.std.proofs.Common.{◌≡◌, ℕ, List, [], ◌∷◌, Bool, true, eqb, ◌||◌, set, refl, ap, ◌∙◌, sym, Option, Some, None}
 use Rattle.std.specs.List.{All, list_any, slice_get}
 use Rattle.std.proofs.lemmas.Bool.{eq-eqb}

@@ -1,5 +1,5 @@
--- The table of the opening meets the rule: the seats of the passes are made one after another from the first view, which then
--- stands behind them.
+-- The table of the opening meets the rule: the seats of the passes are made one after another from the first view,
+-- which then stands after them.
 use Rattle.std.proofs.Common.{◌≡◌, ℕ, ◌<◌, List, [], ◌∷◌, ◌++◌, arith, ap, ◌∙◌, sym, subst, replicate}
 use Rattle.index_words.specs.declared.layout.Layout.{Layout}
 use Rattle.key_map.specs.declared.pass.PassSize.{PassSize}

@@ -1,4 +1,5 @@
--- The plain tree, what searches claim and what they reach, over another list of views: one with more views, or in another order.
+-- The plain tree, what searches claim and what they reach, over another list of views: one with more views, or in
+-- another order.
 use Rattle.std.proofs.Common.{◌≡◌, ℕ, List, Bool, true, Option}
 use Rattle.std.specs.List.{All, list_any}
 use Rattle.index_words.specs.declared.view.View.{View}

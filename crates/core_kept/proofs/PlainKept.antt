@@ -114,7 +114,7 @@ plain_quiet m g vs i v w at same right =
     plain_moved (λ s k. m (Node (Link s) k)) (λ s k. m (Node (Tag s) k)) (child_at (λ e. m (Entry Child e)) g.bundles (m Stamp))
     (greatest_of g.bundles (m Stamp)) g.tree vs i v w at right same
 
--- and another one is put behind the others, or is given up, which has nothing to do
+-- and another one is put after the others, or is given up, which has nothing to do
 pub quiet_pushed : (m : Memory) (g : Meaning) (vs : List View) (i : ℕ) (v w y : View) → IsItem vs i v → HasSameWork v w → y.update ≡ no_update
     → PlainRight m vs g → PlainRight m (set vs i w ++ y ∷ []) g
 quiet_pushed m g vs i v w y at same idle right =

@@ -1,5 +1,5 @@
--- The nodes of the plain tree are in no free list and in no batch: each is one of the tree at the stamp, or was taken out by an
--- update that is not ended yet.
+-- The nodes of the plain tree are in no free list and in no batch: each is one of the tree at the stamp, or was taken
+-- out by an update that is not ended yet.
 use Rattle.std.proofs.Common.{◌≡◌, ℕ, ◌<◌, ◌≤◌, List, true, get_or, arith, sym, subst, inl, inr, None}
 use Rattle.std.specs.List.{sum_by}
 use Rattle.std.proofs.lemmas.Bool.Decides.{eqb_tells}
@@ -77,7 +77,7 @@ module _ (z : Layout) (m : Memory) (vs : List View) (g : Meaning) (rule : Rule z
             omega (arith, none, one_term (own nodes_of k) vs i (get_or vs i d) (record { within = within; is = λ c. get_or_default vs i c d within }));
       }
 
-  -- so it is with each node of the plain tree
+  -- the same holds of each node of the plain tree
   pub plain_clear : (gr : Graph) (plain : NamedTree) → IsPlainTree gr vs g.tree plain → (k : ℕ) → 0 < occurs k plain → IsClear z vs k
   plain_clear gr plain trees k some =
       elim (in-now (undone gr vs) k 0 Right plain g.tree trees.matches some) as (λ _. IsClear z vs k) [

@@ -1,4 +1,4 @@
--- Prepare keeps the rule: a free entry, which has the old head behind it, becomes the head of a bundle.
+-- Prepare keeps the rule: a free entry, which has the old head after it, becomes the head of a bundle.
 use Rattle.std.proofs.Common.{◌≡◌, ℕ, ◌<◌, ◌≤◌, ◌⊎◌, cond, List, [], Bool, true, false, eqb, ◌&&◌, is_some, set, arith, refl, ap, ◌∙◌, sym, subst, inl, inr, Option, Some, None}
 use Rattle.std.specs.List.{sum_by}
 use Rattle.std.proofs.lemmas.Bool.{eq-eqb}

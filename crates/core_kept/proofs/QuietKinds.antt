@@ -1,5 +1,5 @@
--- The kinds of events that leave a view's search where it is, or end it: what is said of the search goes over, and the view has
--- the same to do.
+-- The kinds of events that leave a view's search where it is, or end it: what is said of the search carries over, and
+-- the view has the same to do.
 use Rattle.std.proofs.Common.{◌≡◌, ℕ, cond, Bool, true, false, eqb, ◌&&◌, refl, ap, Option, None}
 use Rattle.index_words.specs.declared.layout.Layout.{Layout}
 use Rattle.index_words.specs.declared.view.View.{View}

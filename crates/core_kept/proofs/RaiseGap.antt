@@ -37,7 +37,7 @@ use Rattle.plain_trees.specs.NullLinks.{turn_of}
 use Rattle.plain_trees.specs.Points.{point_of, EndsAtNull, IsInTurns}
 use Rattle.plain_trees.proofs.NullLinks.{ends-plain}
 
--- what a remembered null link tells of its node, where the key is between the keys of its turns
+-- what a remembered null link says of its node, where the key is between the keys of its turns
 record GapFound (key_of : ℕ → ℕ) (claims : Option ℕ → Option ℕ → ℕ → Type 0) (key node : ℕ) (side : Side) : Type 0 where
   low : Option ℕ
   high : Option ℕ

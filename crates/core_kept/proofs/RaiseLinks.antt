@@ -1,5 +1,5 @@
--- Raise: the links of the new tree. Each leads where it did, but those that the update leaves to be set and those of the new node;
--- and where a link leads elsewhere, the greatest number of its bundle is the new stamp.
+-- Raise: the links of the new tree. Each leads where it did, but those that the update leaves to be set and those of
+-- the new node; and where a link leads elsewhere, the greatest number of its bundle is the new stamp.
 use Rattle.std.proofs.Common.{◌≡◌, ℕ, ◌+◌, ◌<◌, ◌≤◌, ◌⊎◌, cond, List, [], ◌∷◌, ◌++◌, Bool, true, false, eqb, set, arith, refl, ap, ◌∙◌, sym, subst, inl, inr}
 use Rattle.std.proofs.lemmas.Bool.{eqb-true}
 use Rattle.std.proofs.lemmas.Bool.Decides.{nat_tests}

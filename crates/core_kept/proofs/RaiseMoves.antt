@@ -1,4 +1,5 @@
--- A move of one view that brings some of its free slots in: the rule on one kind of slots, and what the others know of a batch.
+-- A move of one view that brings some of its free slots in: the rule on one kind of slots, and what the others know of
+-- a batch.
 use Rattle.std.proofs.Common.{◌≡◌, ℕ, ◌+◌, ◌<◌, ◌≤◌, ◌⊎◌, List, set, arith, ◌∙◌, sym, inl, inr, Some, ◌≢◌}
 use Rattle.std.specs.List.{sum_by}
 use Rattle.std.proofs.lemmas.List.Sums.{sum_by-le-sum_by}
@@ -14,7 +15,8 @@ use Rattle.core_invariant.proofs.Owned.{own_waiting}
 
 module _ (pick : Slots → List ℕ) (size : ℕ) (l l' : ℕ → ℕ) (h h' : View → ℕ → Type 0) (vs : List View) (i : ℕ) (v w : View) (new : List ℕ) (at : IsItem vs i v)
     (right : SlotsRight pick size l h vs) where
-  -- the new slots are not free any more, and linked; what is linked no longer waits; the moved view holds at most them beside what it held
+  -- the new slots are not free any more, and linked; what is linked no longer waits; the moved view holds at most them
+  -- besides what it held
   pub record Brings : Type 0 where
     pub free : (k : ℕ) → count k (pick w.free) + count k new ≡ count k (pick v.free)
     pub balance : (k : ℕ) → own_waiting pick k w + l' k ≡ (own_waiting pick k v + l k) + count k new
@@ -57,7 +59,8 @@ module _ (pick : Slots → List ℕ) (size : ℕ) (l l' : ℕ → ℕ) (h h' : V
               (λ u beside of k holds. omega (arith, of k (brings.others_hold u beside k holds), free_less k));
         }
 
--- what a batch's owner knows of a view is known of it after a move, where that holds nothing of the batch if the view held nothing
+-- what a batch's owner knows of a view is known of it after a move, where that holds nothing of the batch if the view
+-- held nothing
 pub grace_from : (hn he he' : View → ℕ → Type 0) (t u u' : View) → u'.number ≡ u.number → u'.section_word ≡ u.section_word
     → (HoldsNone hn he t.batch u → HoldsNone hn he' t.batch u') → GraceRight hn he t u → GraceRight hn he' t u'
 grace_from hn he he' t u u' number word step right = record {

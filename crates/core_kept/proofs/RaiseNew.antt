@@ -1,4 +1,5 @@
--- The node that a raise brings in, and the entries of its bundles: they were free, so nothing of the rule spoke of them.
+-- The node that a raise brings in, and the entries of its bundles: they were free, so nothing of the rule spoke of
+-- them.
 use Rattle.std.proofs.Common.{◌≡◌, ℕ, ◌+◌, ◌<◌, ◌≤◌, ◌⊎◌, cond, List, [], ◌∷◌, ◌++◌, Bool, true, false, ◌||◌, set, arith, refl, ap, ◌∙◌, sym, subst, inl, inr, Option, Some, None}
 use Rattle.std.specs.List.{sum_by}
 use Rattle.std.proofs.lemmas.Bool.{eq-eqb, cases_lt}
@@ -217,7 +218,7 @@ module _ (z : Layout) (m : Memory) (vs : List View) (g : Meaning) (rule : Rule z
       zero_unless (sum_by (pending_count e) vs) (λ more.
       let term = term_of (pending_count e) vs more in omega (arith, some, entry_pending term.place e term.item term.at term.some))
 
-  -- after the raise an entry is pending once where it is new, and else as often as before
+  -- after the raise an entry is pending once where it is new, and otherwise as often as before
   pub pending_after : (known : List Update) (e : ℕ) → sum_by (pending_count e) (set vs i (raised known)) ≡ sum_by (pending_count e) vs + count e move.entries
   pending_after known e = omega (arith, sum_moved (pending_count e) vs i v (raised known) at, count-append e v.update.pending move.entries)
 

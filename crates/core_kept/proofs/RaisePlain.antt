@@ -1,5 +1,5 @@
--- Raise: what is said of plain links. Each link of the new tree leads where the tree does, but those that the update leaves to
--- be set; and where it leaves a tag to be raised, the greatest number of the bundle has risen.
+-- Raise: what is said of plain links. Each link of the new tree leads where the tree does, but those that the update
+-- leaves to be set; and where it leaves a tag to be raised, the greatest number of the bundle has risen.
 use Rattle.std.proofs.Common.{◌≡◌, ℕ, ◌+◌, ◌<◌, ◌≤◌, List, ◌++◌, length, true, set, arith, ap, ◌∙◌, sym, inl, inr, filter}
 use Rattle.std.specs.List.{sum_by}
 use Rattle.std.proofs.lemmas.Bool.{cases_lt}

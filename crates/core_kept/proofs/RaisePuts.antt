@@ -1,5 +1,5 @@
--- A raised put keeps the match of the plain tree and the tree at the stamp: of an absent key, where its search has found the key's
--- gap in the plain tree, and of a present one.
+-- A raised put keeps the match of the plain tree and the tree at the stamp: of an absent key, where its search has
+-- found the key's gap in the plain tree, and of a present one.
 use Rattle.std.proofs.Common.{◌≡◌, ℕ, ◌<◌, ◌≤◌, ◌⊎◌, List, ◌∷◌, Bool, true, false, ltb, eqb, ◌&&◌, ◌||◌, set, arith, refl, ap, ◌∙◌, sym, subst, inl, inr, None}
 use Rattle.std.specs.List.{list_any, sum_by}
 use Rattle.std.proofs.lemmas.Bool.{and_from, eq-eqb, cases_lt}

@@ -171,7 +171,7 @@ module _ (z : Layout) (m : Memory) (vs : List View) (g : Meaning) (rule : Rule z
       near_apart : n ≡ t → ⊥
       near_apart = node.apart n Right t (inr node.there) node.spelled.5.0 node.inside
 
-      -- what hangs behind the successor hangs at the copy
+      -- what hangs to the right of the successor hangs to the right of the copy
       near_behind : stamp_graph.child Right t ≡ gr.child Right slot
       near_behind =
           spelled_top stamp_graph (stamp_graph.child Right t) r'' node.spelled.5.5

@@ -1,5 +1,5 @@
--- A raised removal keeps the match of the plain tree and the tree at the stamp, in each of its cases: the removed node has no left
--- child, has no right one, or has two children and a near or a far successor.
+-- A raised removal keeps the match of the plain tree and the tree at the stamp, in each of its cases: the removed node
+-- has no left child, has no right one, or has two children and a near or a far successor.
 use Rattle.std.proofs.Common.{◌≡◌, ℕ, ◌<◌, ◌⊎◌, List, [], ◌∷◌, Bool, true, false, eqb, ◌&&◌, ◌||◌, set, arith, refl, ap, ◌∙◌, sym, subst, inl, inr, Option, None}
 use Rattle.std.specs.List.{list_any}
 use Rattle.std.proofs.lemmas.Bool.{and_from, eq-eqb}
@@ -122,7 +122,8 @@ module _ (z : Layout) (m : Memory) (vs : List View) (g : Meaning) (rule : Rule z
         subst (λ t. LeavesUnset u0 u1 slot parent top (Branch n kk vv t r)) (sym left)
         (subst (λ t. LeavesUnset u0 u1 slot parent top (Branch n kk vv (Branch s a b l' r') t)) (sym right) (gone, (slot, at_link parent top to))))
 
-    -- it has two children: the successor is the first node of the right tree, and is locked as the node is to which it hangs
+    -- it has two children: the successor is the first node of the right tree, and is locked as the node is to which it
+    -- hangs
     module _ (s a b t c e successor q : ℕ) (l' r' l'' r'' : NamedTree) (side' : Side) (left : l ≡ Branch s a b l' r') (right : r ≡ Branch t c e l'' r'')
         (first : first_node t l'' ≡ successor)
         (takes : move.taken ≡ n ∷ successor ∷ []) (some' : 0 < successor) (there' : 0 < occurs successor g.tree) (held' : 0 < lock_count successor v)
@@ -167,7 +168,8 @@ module _ (z : Layout) (m : Memory) (vs : List View) (g : Meaning) (rule : Rule z
 
       -- the right tree is spelled at the removed node's right link
       module _ (spelled : IsSpelled stamp_graph (stamp_graph.child Right n) (Branch t c e l'' r'')) where
-        -- the link is the one at which the successor hangs, or the copy's right link, where the successor is the right child
+        -- the link is the one at which the successor hangs, or the copy's right link, where the successor is the right
+        -- child
         one_of : (parent : ℕ) (top : Side) → IsLinkTo successor parent top slot Right (Branch t c e l'' r'')
             → ((parent ≡ slot) × (top ≡ Right)) ⊎ ((q ≡ parent) × (side' ≡ top))
         one_of parent top to = elim (moved_to successor parent top slot n Right Right (Branch t c e l'' r'') to)

@@ -180,7 +180,7 @@ module _ (z : Layout) (m : Memory) (vs : List View) (g : Meaning) (rule : Rule z
   tree_raised u Remove slot known moved can found gap =
       remove_raised z m vs g rule plain W trees i v at can.raised (no_wait (record u { change = Remove }) can) u slot moved can known found
 
-  -- what a raise needs beside what its step moves
+  -- what a raise needs besides what its step moves
   step_parts : (u : Update) (slot : ℕ) → is_step m vs v u slot (move_at z m u slot g.tree) g.tree ≡ true
       → (has_key u.change u.key g.tree ≡ true) × (finds_gap m v u g.tree ≡ true)
   step_parts u slot is =

@@ -1,5 +1,6 @@
--- A raise: the tree at the stamp makes its step, and the plain tree stays. What the update has to do then comes to what others
--- have to do, the nodes that it has locked were settled, and each seat keeps what it knows of the plain tree.
+-- A raise: the tree at the stamp makes its step, and the plain tree stays. What the update has to do then is added to
+-- what others have to do, the nodes that it has locked were settled, and each seat keeps what it knows of the plain
+-- tree.
 use Rattle.std.proofs.Common.{◌≡◌, ℕ, ◌<◌, List, [], Bool, true, ◌||◌, set, arith, ◌∙◌, sym, subst, inl, inr, Option, None}
 use Rattle.std.specs.List.{list_any}
 use Rattle.std.proofs.lemmas.Bool.{cases_lt}

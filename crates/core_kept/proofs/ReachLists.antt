@@ -1,5 +1,5 @@
--- What searches on plain links reach, where the lists of slots of one view change: the retired slots become a batch, a batch becomes
--- free, a look is made, or another seat's slots are taken in.
+-- What searches on plain links reach, where the lists of slots of one view change: the retired slots become a batch, a
+-- batch becomes free, a look is made, or another seat's slots are taken in.
 use Rattle.std.proofs.Common.{◌≡◌, ℕ, ◌<◌, ◌≤◌, List, false, set, arith, refl, sym, subst, Option, Some, None}
 use Rattle.std.specs.List.{sum_by}
 use Rattle.index_words.specs.declared.layout.Layout.{Layout}
@@ -20,7 +20,8 @@ module _ (z : Layout) (g : Graph) (vs : List View) (i : ℕ) (v w : View) (at : 
   abbrev ws : List View
   ws = set vs i w
 
-  -- the view has other lists, and reaches the same; what it has in its batch others reach only where they are not let pass
+  -- the view has other lists, and reaches the same; what it has in its batch others reach only where they are not let
+  -- pass
   pub record ListsMoved : Type 0 where
     pub mine : (k : ℕ) → HoldsPlain g w k → own_free nodes_of k w ≤ own_free nodes_of k v
     pub free : (u : View) → Beside vs i u → ReachesRight z g vs u → (k : ℕ) → HoldsPlain g u k → own_free nodes_of k w ≤ own_free nodes_of k v

@@ -1,5 +1,5 @@
--- What searches on plain links reach, where one view moves: each view reaches what one reached before, or nodes that are in no
--- free list and in no batch.
+-- What searches on plain links reach, where one view moves: each view reaches what one reached before, or nodes that
+-- are in no free list and in no batch.
 use Rattle.std.proofs.Common.{◌≡◌, ℕ, ◌<◌, ◌≤◌, ◌⊎◌, List, false, get_or, set, arith, ap, ◌∙◌, sym, subst, inl, inr, Option, None}
 use Rattle.std.specs.List.{All, sum_by}
 use Rattle.index_words.specs.declared.layout.Layout.{Layout}

@@ -1,5 +1,5 @@
--- The plain tree, what searches claim and what they reach, after a seat is joined into another one: what comes along is reached by
--- nobody, or the joining seat searches for nothing.
+-- The plain tree, what searches claim and what they reach, after a seat is joined into another one: what comes along is
+-- reached by nobody, or the joining seat searches for nothing.
 use Rattle.std.proofs.Common.{◌≡◌, ℕ, ◌<◌, ◌≤◌, ◌⊎◌, List, ◌++◌, length, true, false, eqb, not, ◌&&◌, set, arith, refl, ap, sym, inl, inr, Option, Some, None}
 use Rattle.std.specs.List.{slice_get}
 use Rattle.std.proofs.lemmas.Bool.{and_parts}

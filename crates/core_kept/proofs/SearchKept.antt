@@ -1,5 +1,5 @@
--- The plain tree, what searches claim and what they reach, after the kinds of events that move no plain link of a linked node and
--- leave each search where it is, or end it, or let it go on.
+-- The plain tree, what searches claim and what they reach, after the kinds of events that move no plain link of a
+-- linked node and leave each search where it is, or end it, or let it go on.
 use Rattle.std.proofs.Common.{◌≡◌, ℕ, ◌<◌, ◌≤◌, cond, List, Bool, true, false, eqb, set, arith, refl, ap, ◌∙◌, sym, subst, inl, Option, None}
 use Rattle.std.specs.List.{All}
 use Rattle.index_words.specs.declared.layout.Layout.{Layout}
@@ -94,7 +94,7 @@ module _ (z : Layout) (gr : Graph) (vs : List View) (now W : NamedTree) (trees :
         let step = walk_reach gr v.reading k side own_search.key is j holds.some holds.from holds.searched holds.reached in
         record { inside = holds.inside; some = holds.some; from = step.0; searched = step.1; reached = step.2 }
 
-    -- the claims go over to the views after the event
+    -- the claims carry over to the views after the event
     widened : (b : Bool) (low high : Option ℕ) (a : ℕ) → ClaimsAt gr vs W v low high a → ClaimsAt gr (set vs i (with_walk b)) W (with_walk b) low high a
     widened b low high a claims y inside =
         claims_wider gr (IsBypassed (undone gr vs)) (IsBypassed (undone gr (set vs i (with_walk b)))) (IsWaiting (waits vs v))

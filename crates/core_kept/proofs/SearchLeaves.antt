@@ -1,5 +1,5 @@
--- The plain tree, what searches claim and what they reach, after a leave: the view reaches nothing then, and forgets the node that its
--- update brought in.
+-- The plain tree, what searches claim and what they reach, after a leave: the view reaches nothing then, and forgets
+-- the node that its update brought in.
 use Rattle.std.proofs.Common.{◌≡◌, ℕ, ◌⊎◌, List, [], ◌∷◌, true, set, arith, refl, ap, ◌∙◌, sym, subst, inl, inr, Option, Some, None}
 use Rattle.index_words.specs.declared.layout.Layout.{Layout}
 use Rattle.index_words.specs.declared.side.Side.TheVariants.{Right}

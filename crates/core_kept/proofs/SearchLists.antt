@@ -1,5 +1,5 @@
--- The plain tree, what searches claim and what they reach, where the lists of slots of one view change: the retired slots become a
--- batch, or a batch becomes free.
+-- The plain tree, what searches claim and what they reach, where the lists of slots of one view change: the retired
+-- slots become a batch, or a batch becomes free.
 use Rattle.std.proofs.Common.{◌≡◌, ℕ, ◌<◌, ◌≤◌, cond, List, Bool, true, false, ◌||◌, set, arith, refl, ap, ◌∙◌, sym, subst, inl, inr, Option, Some, None}
 use Rattle.std.proofs.lemmas.Bool.{cases_lt}
 use Rattle.index_words.specs.declared.layout.Layout.{Layout}

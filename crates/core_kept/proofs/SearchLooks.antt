@@ -1,5 +1,5 @@
--- The plain tree, what searches claim and what they reach, after an enter, with which a search begins at the root again, and after a
--- look at a section word: who is inside the section that was found is not let pass.
+-- The plain tree, what searches claim and what they reach, after an enter, with which a search begins at the root
+-- again, and after a look at a section word: a seat inside the section that was found is not let pass.
 use Rattle.std.proofs.Common.{◌≡◌, ℕ, ◌+◌, ◌<◌, List, true, false, eqb, ◌&&◌, set, arith, refl, ap, ◌∙◌, sym, subst, Some, None}
 use Rattle.std.proofs.lemmas.Bool.{and_parts}
 use Rattle.std.proofs.lemmas.List.{set-set}
@@ -65,7 +65,7 @@ module _ (z : Layout) (words : List ℕ) (vs : List View) (right : InRule z word
       let three : SearchesAfter z gr0 (set vs2 i (settled z.passes v2)) g.tree = settled_after z gr0 g.tree m' vs2 g rule2 i v2 at2 two in
       subst (λ (ws : List View). SearchesAfter z gr0 ws g.tree) (set-set vs1 i v2 (settled z.passes v2) ∙ set-set vs i v1 (settled z.passes v2)) three
 
-  -- a look that found the section word of a pass leaves those who are inside that section as they were
+  -- a look that found the section word of a pass leaves the seats inside that section as they were
   looks_after : (us : List View) (u : View) (of : IsItem us i u) (pass : ℕ) → Rule z m us g → SearchesAfter z gr0 us g.tree
       → SearchesAfter z gr0 (set us i (record u { grace = looked_at u.grace pass (m (Section pass)) })) g.tree
   looks_after us u of pass rule before =

@@ -77,7 +77,7 @@ pub record Work : Type 0 where
 abbrev pub work_of : Updating → Work
 work_of u = record { raised = u.raised; added = u.added; taken = u.taken; unset = u.unset; unlinking = u.unlinking; waiting = u.waiting }
 
--- the view has the same to do, and locks no other node of the tree at the stamp, but such as are in the plain tree
+-- the view has the same to do, and locks no other node of the tree at the stamp, other than ones in the plain tree
 pub record SameUpdate (now plain : NamedTree) (v w : View) : Type 0 where
   pub update : work_of w.update ≡ work_of v.update
   pub locked : (k : ℕ) → IsLocked w k → 0 < occurs k now → IsLocked v k ⊎ (0 < occurs k plain)
@@ -167,7 +167,7 @@ module _ (g : Graph) (vs : List View) (i : ℕ) (v w : View) (at : IsItem vs i v
       subst (λ (o : Option ℕ). list_any (λ (y : View). waits_in o w.section_word n s y) ws ≡ true) (sym number)
       (subst (λ x. list_any (λ (y : View). waits_in v.number x n s y) ws ≡ true) (sym word) (same_waits same v n s some))
 
--- what is said of a view's search with these claims goes over to another view
+-- what is said of a view's search with these claims carries over to another view
 pub record SearchStep (C : Option ℕ → Option ℕ → ℕ → Type 0) (key_of : ℕ → ℕ) (v w : View) : Type 0 where
   pub place : PlaceSaid C key_of (turn_key v.reading.right_turn) (turn_key v.reading.left_turn) v.reading.place
       → PlaceSaid C key_of (turn_key w.reading.right_turn) (turn_key w.reading.left_turn) w.reading.place

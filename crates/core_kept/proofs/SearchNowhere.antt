@@ -1,5 +1,5 @@
--- The plain tree, what searches claim and what they reach, after a set link, after a try of a lock, and where a view comes to stand
--- nowhere: its search begins at the root again.
+-- The plain tree, what searches claim and what they reach, after a set link, after a try of a lock, and where a view
+-- comes to stand nowhere: its search begins at the root again.
 use Rattle.std.proofs.Common.{◌≡◌, ℕ, ◌+◌, ◌<◌, ◌≤◌, cond, List, [], ◌∷◌, Bool, true, false, eqb, set, arith, refl, ap, ◌∙◌, sym, subst, inl, inr, None}
 use Rattle.std.specs.List.{All}
 use Rattle.std.proofs.lemmas.Bool.{eqb-true}

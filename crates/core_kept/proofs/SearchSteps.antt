@@ -1,5 +1,5 @@
--- What a view's search claims, where the view moves and its search stays where it is, or ends: after each kind of event that
--- leaves plain links as they are.
+-- What a view's search claims, where the view moves and its search stays where it is, or ends: after each kind of event
+-- that leaves plain links as they are.
 use Rattle.std.proofs.Common.{◌≡◌, ℕ, cond, List, [], ◌∷◌, map, Bool, true, false, eqb, ◌&&◌, refl, ap, ◌∙◌, Option, Some, None}
 use Rattle.std.proofs.lemmas.Bool.{eqb-true}
 use Rattle.index_words.specs.declared.side.Side.{Side}

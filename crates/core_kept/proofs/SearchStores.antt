@@ -1,5 +1,5 @@
--- The plain tree, what searches claim and what they reach, after the kinds of stores to other words than keys and plain links, after a
--- try of a lock, and after a load of the stamp.
+-- The plain tree, what searches claim and what they reach, after the kinds of stores to other words than keys and plain
+-- links, after a try of a lock, and after a load of the stamp.
 use Rattle.std.proofs.Common.{◌≡◌, ℕ, List, true, ◌&&◌, set, arith, refl, sym, subst, Option, Some}
 use Rattle.index_words.specs.declared.layout.Layout.{Layout}
 use Rattle.index_words.specs.declared.view.View.{View}

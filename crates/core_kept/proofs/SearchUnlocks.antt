@@ -1,5 +1,5 @@
--- The plain tree, what searches claim and what they reach, after an unlock: the view stands nowhere then, and with its last lock
--- its update ends.
+-- The plain tree, what searches claim and what they reach, after an unlock: the view stands nowhere then, and with its
+-- last lock its update ends.
 use Rattle.std.proofs.Common.{◌≡◌, ℕ, ◌≤◌, cond, List, length, Bool, true, false, eqb, ◌&&◌, set, arith, refl, ap, None}
 use Rattle.std.proofs.lemmas.Bool.{and_parts}
 use Rattle.index_words.specs.declared.layout.Layout.{Layout}

@@ -1,5 +1,5 @@
--- The plain tree, what searches claim and what they reach, after a look at a section word at the wait of a removal: for those who are
--- inside the section that was found it waits as before.
+-- The plain tree, what searches claim and what they reach, after a look at a section word at the wait of a removal: for
+-- the seats inside the section that was found it waits as before.
 use Rattle.std.proofs.Common.{◌≡◌, ℕ, List, Bool, true, false, not, ◌&&◌, set, arith, refl, ap, ◌∙◌, sym, inl, inr, cond}
 use Rattle.std.proofs.lemmas.Bool.{and_from}
 use Rattle.index_words.specs.declared.layout.Layout.{Layout}
@@ -96,7 +96,7 @@ module _ (z : Layout) (words : List ℕ) (vs : List View) (right : InRule z word
         any_moved (λ (t : View). copies t.update.taken r s) (λ (t : View). copies t.update.taken r s) vs i v w at (λ is. is) (λ t beside is. is) some;
   }
 
-  -- who is inside a section is waited for as before; the others claim nothing
+  -- a seat inside a section is waited for as before; the others claim nothing
   other_search : (t : View) → Beside vs i t → SearchRight gr0 vs now W t → SearchRight gr0 ws now W t
   other_search t beside before = by (is_even t.section_word) refl
     where

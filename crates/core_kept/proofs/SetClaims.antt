@@ -164,7 +164,7 @@ module _ (z : Layout) (m : Memory) (vs : List View) (g : Meaning) (rule : Rule z
         own : waits_for t r s v ≡ true → waits_for t r s (link_set v k side x) ≡ true
         own waiting = kept (unlinks_at k side v.update.unlinking) refl waiting
 
-    -- its successor was taken out, and is not the node that goes out of the plain tree now
+    -- its successor was taken out, and is not the node that leaves the plain tree now
     waits_locked : (r s : ℕ) → waits vs t r s ≡ true → IsOut u0 s × (s ≡ old1 → ⊥)
     waits_locked r s some =
         let y : Passing (waits_for t r s) vs = any_item (waits_for t r s) vs some in

@@ -1,5 +1,5 @@
--- The plain tree, what searches claim and what they reach, after an event that is allowed: kind by kind, over the tree at the stamp
--- that the words mean then.
+-- The plain tree, what searches claim and what they reach, after an event that is allowed: kind by kind, over the tree
+-- at the stamp that the words mean then.
 use Rattle.std.proofs.Common.{◌≡◌, ℕ, List, true, false, refl, sym, subst, Option, Some}
 use Rattle.index_words.specs.declared.layout.Layout.{Layout}
 use Rattle.key_map.specs.declared.update.Update.{Update}

@@ -1,4 +1,5 @@
--- What is said of turns, of nodes that leave the plain tree, and of a table of one pass, after an event that is allowed: kind by kind.
+-- What is said of turns, of nodes that leave the plain tree, and of a table of one pass, after an event that is
+-- allowed: kind by kind.
 use Rattle.core_events.specs.declared.event.Kind.{Kind}
 use Rattle.core_events.specs.declared.event.Kind.TheVariants.{MakeSeat, SplitSeat, JoinSeat, Enter, Leave, LookSec, Fill, LoadStamp, LoadHead, LoadTs, LoadPtr, LoadNext, Prepare, Raise, Finalise, TryLock, Unlock, LoadMark, Mark as MarkNode, LoadKeyOrVal, Announce, LookAnn, Cut, LoadLink, SetLink, LoadTag, SetTag}
 use Rattle.core_kept.specs.TurnLaws.{KeepsTurnsAt}

@@ -1,4 +1,4 @@
--- What the tests of a new node tell, and the children, the selections and the bundles after a raise.
+-- What the tests of a new node say, and the children, the selections and the bundles after a raise.
 use Rattle.std.proofs.Common.{◌≡◌, ℕ, ◌+◌, ◌<◌, ◌≤◌, ◌⊎◌, cond, List, [], ◌∷◌, ◌++◌, Bool, true, false, not, eqb, arith, refl, ap, ◌∙◌, sym, subst, inl, inr, ◌&&◌, ◌||◌, Option, Some, None}
 use Rattle.std.specs.List.{list_all}
 use Rattle.std.proofs.lemmas.Bool.{eqb-true, and_parts, or_right, cases_lt}
@@ -223,7 +223,7 @@ module _ (z : Layout) (m : Memory) (vs : List View) (g : Meaning) (rule : Rule z
           | inr none ↦ omega (arith, none)
         ]
 
-    -- so the child of a live node's link is told by the pending entries
+    -- so the child of a live node's link is given by the pending entries
     pub child_pending : (k : ℕ) (side : Side) → IsLive z vs k → child_now m vs more side k ≡ child_now m vs v.update.pending side k
     child_pending k side live = by (eqb (head side k) 0) refl
       where

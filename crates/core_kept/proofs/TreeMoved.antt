@@ -39,7 +39,8 @@ pub record MovesPlain (m : Memory) (g : Meaning) (v : View) (u : Update) (move :
   -- each link of the tree after it is one of the tree before, is to be set, or is one of the new node
   pub leads : (k : ℕ) (side : Side) (x : ℕ) → IsChildAt 0 Right tree k side x
       → IsChildAt 0 Right g.tree k side x ⊎ (Sets k side move.plain.unset ⊎ (0 < count k (listed move.added)))
-  -- what is to be set is of nodes that the seat has locked, holds what it is remembered to hold, and is to lead where the tree does then
+  -- what is to be set is of nodes that the seat has locked, holds what it is remembered to hold, and is to lead where
+  -- the tree does then
   pub work : Every (IsWork (child_at (λ e. m (Entry Child e)) (meaning_after m g v u move tree).bundles (m Stamp + 1)) g.tree tree) move.plain.unset
   pub was : Every (λ (x : UnsetLink). m (Node (Link x.side) x.node) ≡ x.was) move.plain.unset
   pub locked : Every (λ (x : UnsetLink). locks x.node v.held.nodes ≡ true) move.plain.unset

@@ -158,7 +158,7 @@ module _ (z : Layout) (m : Memory) (vs : List View) (g : Meaning) (rule : Rule z
         | inr here ↦ bundle_unfree x here (cases_lt 0 (sum_by (own_free entries_in x) vs))
       ]
 
-  -- the node is in no batch of one who has let the view pass
+  -- the node is in no batch of a view that has let this one pass
   batch_apart : (j : ℕ) (u : View) → IsItem vs j u → has_let u.grace v.number v.section_word ≡ true → 0 < count k u.batch.nodes → ⊥
   batch_apart j u of lets some = both (has_let u.grace v.number v.section_word) lets (can.waits j u of some)
     where

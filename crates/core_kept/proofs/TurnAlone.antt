@@ -1,5 +1,5 @@
--- On a table of one pass a seat that holds locks is the only one that can be inside a section; so where it has raised, nothing is said of
--- what stays as it is. A store to a tag keeps what is said of turns.
+-- On a table of one pass a seat that holds locks is the only one that can be inside a section; so where it has raised,
+-- nothing is said of what stays as it is. A store to a tag keeps what is said of turns.
 use Rattle.std.proofs.Common.{◌≡◌, ℕ, ◌<◌, ◌⊎◌, cond, List, true, eqb, ◌&&◌, map, set, arith, refl, ap, ◌∙◌, sym, subst, inl, inr, Option, Some, None}
 use Rattle.std.specs.List.{All}
 use Rattle.std.proofs.lemmas.Bool.{and_parts, and_from, eq-eqb}
@@ -87,7 +87,7 @@ module _ (z : Layout) (words : List ℕ) (vs : List View) (right : InRule z word
       (λ one inside raised. absurd (raise (sym same ∙ raised)))
       (λ t beside turns one inside raised. absurd (never (sym inside ∙ others_outside k locked one t beside)))
 
-  -- nor of what is known, of the other seats
+  -- nor of what the other seats know
   pub others_known : (k : ℕ) → 0 < lock_count k v → (g : Graph) (tag : Side → ℕ → ℕ) (t : View) → Beside vs i t → KnownRight z g tag t
   others_known k locked g tag t beside one =
       none_known z g (λ n. 0) tag right.plain_tree t

@@ -1,4 +1,5 @@
--- What is said of turns, of nodes that leave the plain tree, and of a table of one pass, where one view moves and the plain tree stays.
+-- What is said of turns, of nodes that leave the plain tree, and of a table of one pass, where one view moves and the
+-- plain tree stays.
 use Rattle.std.proofs.Common.{◌≡◌, ℕ, ◌+◌, ◌<◌, ◌≤◌, ◌⊎◌, List, [], ◌∷◌, Bool, true, false, cond, eqb, set, arith, refl, ap, ◌∙◌, sym, subst, inl, inr, Option, Some, None, IfSome}
 use Rattle.std.proofs.lemmas.Bool.{eqb-true}
 use Rattle.std.proofs.lemmas.List.Elements.{All-weaker}

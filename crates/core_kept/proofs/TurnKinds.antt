@@ -1,5 +1,5 @@
--- The kinds of events that leave a view's turns and the plain tree as they are: what is said of turns, of nodes that leave the plain
--- tree, and of a table of one pass, after each of them.
+-- The kinds of events that leave a view's turns and the plain tree as they are: what is said of turns, of nodes that
+-- leave the plain tree, and of a table of one pass, after each of them.
 use Rattle.std.proofs.Common.{◌≡◌, ℕ, cond, List, Bool, true, false, eqb, ◌&&◌, set, refl, ap, ◌∙◌, sym, subst, Option, Some, None, inl}
 use Rattle.std.proofs.lemmas.Bool.{and_parts, eqb-true}
 use Rattle.index_words.specs.declared.layout.Layout.{Layout}

@@ -1,4 +1,5 @@
--- The same where a view comes to stand nowhere, or to have read nothing, after a look at a section, and where seats are made or joined.
+-- The same where a view comes to stand nowhere, or to have read nothing, after a look at a section, and where seats are
+-- made or joined.
 use Rattle.std.proofs.Common.{◌≡◌, ℕ, cond, List, [], ◌∷◌, ◌++◌, length, Bool, true, false, eqb, not, ◌&&◌, set, arith, refl, ap, ◌∙◌, sym, subst, Option, Some, None}
 use Rattle.std.specs.List.{slice_get}
 use Rattle.std.proofs.lemmas.Bool.{and_parts}

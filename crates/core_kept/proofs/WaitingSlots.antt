@@ -57,7 +57,7 @@ use Rattle.core_kept.proofs.TryLocks.{slots_push}
 use Rattle.core_kept.proofs.Unlocks.{slots_other, until_by}
 use Rattle.core_kept.proofs.WaitingLoads.{less, quiet}
 
--- a list that is empty with another one behind it
+-- a list that is empty with another one after it
 both_empty : {X : Type 0} (xs ys : List X) → xs ++ ys ≡ [] → (xs ≡ []) × (ys ≡ [])
 both_empty [] ys is = (refl, is)
 both_empty (x ∷ xs) ys is = cc
@@ -271,7 +271,7 @@ module _ (z : Layout) (words : List ℕ) (vs : List View) (right : InRule z word
   unlock_waits _ = own_right
 
   -- announcements and cuts
-  -- who cuts has a pass number
+  -- a seat that cuts has a pass number
   cut_named : (u : Word) → may_cut z m vs v u value ≡ true → v.number ≡ None → ⊥
   cut_named (Entry part e) met none =
       let idle = nameless_idle _ _ v (seat_at z m vs right.meaning i v at right.rule).section none in

@@ -16,7 +16,7 @@ pub record IsWhole (t : Table) (seen : List Update) : Type 0 where
   pub long : length seen ≡ held_by t Stamp
   pub begins : (k : ℕ) (x : View) → IsItem t.views k x → IsBeginning x.history.seen seen
 
--- the other view's history is what was told, and is a beginning of what is seen then
+-- the other view's history is what was reported, and is a beginning of what is seen then
 pub record IsTold (other w : View) : Type 0 where
   pub told : w.history.told ≡ other.history.seen
   pub known : IsBeginning other.history.seen w.history.seen
@@ -31,5 +31,5 @@ pub record KeepsSeen (t : Table) (e : Event) (u : Table) : Type 0 where
       → (w.reading.opened ≡ Some (held_by u Stamp)) × (w.history.found ≡ held_by u Stamp)
   -- a seat that is split off has seen what the other has
   pub split : e.kind ≡ SplitSeat → (v w : View) → IsItem t.views e.seat v → IsItem u.views (length t.views) w → w.history.seen ≡ v.history.seen
-  -- a seat into which another is joined is told what that one had seen
+  -- a seat into which another is joined is given what that one had seen
   pub joined : e.kind ≡ JoinSeat → (other w : View) → IsItem t.views e.value other → IsItem u.views e.seat w → IsTold other w

@@ -10,8 +10,8 @@ use Rattle.core_kept.specs.TurnLaws.{KeepsTurnsAt}
 abbrev pub RuleLaw : Type 0
 RuleLaw = (kind : Kind) → KeepsRuleAt kind
 
--- the plain tree, what each seat's search claims and what it reaches: over the tree at the stamp as it was, and at a raise
--- over the new one
+-- the plain tree, what each seat's search claims and what it reaches: over the tree at the stamp as it was, and at a
+-- raise over the new one
 pub record SearchesLaw : Type 0 where
   pub stays : (kind : Kind) → ¬ (kind ≡ Raise) → KeepsSearchesAt kind
   pub raise : KeepsSearchesNow Raise

@@ -1,3 +1,4 @@
+-- What every event keeps of the rule, of views, of searches and of plain links.
 pub mod KeepsSeen
 pub mod SectionMoves
 pub mod ViewLaws

@@ -15,13 +15,14 @@ use Rattle.core_events.specs.SpelledNow.{child_now, tree_now}
 use Rattle.core_events.specs.Steps.{needs, carries, view_after, views_after, words_after}
 use Rattle.core_invariant.specs.Rule.{InRule}
 
--- each link of the tree at the stamp, before and after, that led to a node and leads to none is one whose tag the view owes
+-- each link of the tree at the stamp, before and after, that led to a node and leads to none is one whose tag the view
+-- owes
 abbrev pub OwesNulled : Layout → Memory → List View → Memory → List View → View → Type 0
 OwesNulled z m vs m' ws w =
     (k : ℕ) (side : Side) → IsLinkIn 0 Right (tree_now z m vs) k side → IsLinkIn 0 Right (tree_now z m' ws) k side → 0 < child_now m vs [] side k
     → child_now m' ws [] side k ≡ 0 → owes k side w.update.owed ≡ true
 
--- so it is after a raise that is allowed
+-- this holds after a raise that is allowed
 abbrev pub OwesLaw : Type 0
 OwesLaw =
     (z : Layout) (words : List ℕ) (vs : List View) → InRule z words vs → (i n value : ℕ) (v : View) (o : Option Update) → IsItem vs i v

@@ -31,7 +31,7 @@ KeepsSearchesAt kind =
     → needs kind z (memory z words) vs i v w value o ≡ true
     → SearchesAfter z (plain_graph (memory z (words_after kind words n value))) (views_after kind z (memory z words) vs i v w value o) right.meaning.tree
 
--- an event of this kind that is allowed keeps it over the tree that the words spell then: so it is with a raise
+-- an event of this kind that is allowed keeps it over the tree that the words spell then, as for a raise
 abbrev pub KeepsSearchesNow : Kind → Type 0
 KeepsSearchesNow kind =
     (z : Layout) (words : List ℕ) (vs : List View) (right : InRule z words vs) (i : ℕ) (v : View) → IsItem vs i v → v.joined ≡ false

@@ -23,7 +23,7 @@ MakeLaw =
     (z : Layout) (words : List ℕ) (vs : List View) (i n : ℕ) (v : View) (size : PassSize) → IsItem vs i v → InRule z words vs → MayMake v n size
     → InRule z words (slice_set vs i (made_left v size) ++ made_right v n size ∷ [])
 
--- made one after another from the first view, the seats of the passes stand behind the first view, which is empty then
+-- made one after another from the first view, the seats of the passes stand after the first view, which is empty then
 abbrev pub MadeLaw : Type 0
 MadeLaw =
     (z : Layout) (sizes : List PassSize) → z ≡ layout_of sizes → IsRight (first_table z)

@@ -1,4 +1,5 @@
--- What is said of turns of searches, of nodes that leave the plain tree, and of a table of one pass, after an event that is allowed.
+-- What is said of turns of searches, of nodes that leave the plain tree, and of a table of one pass, after an event
+-- that is allowed.
 use Rattle.std.specs.Prelude.{◌≡◌, ℕ, List, false, true, All, Option, Some}
 use Rattle.index_words.specs.declared.layout.Layout.{Layout}
 use Rattle.index_words.specs.declared.side.Side.{Side}
@@ -26,7 +27,7 @@ pub record TurnsKept (z : Layout) (g : Graph) (mark : ℕ → ℕ) (tag : Side �
   pub still : All (StillRight z g tag plain) vs
   pub known : All (KnownRight z g tag) vs
 
--- so it is with the tree that the plain links spell
+-- the same of the tree that the plain links spell
 abbrev pub TurnsAfter : Layout → Memory → List View → Type 0
 TurnsAfter z m vs =
     (plain : NamedTree) → IsSpelled (plain_graph m) ((plain_graph m).child Right 0) plain

@@ -26,7 +26,7 @@ pub fn views_keep_the_rule()
 {}
 
 /// How seats are made. The table with the first view alone meets the rule, and making a seat keeps it. Made one after
-/// another, the seats of the passes stand behind the first view, which is empty then. And a view that has every number,
+/// another, the seats of the passes stand after the first view, which is empty then. A view that has every number,
 /// as its own or given up to it, knows as many updates as the stamp says.
 pub fn how_seats_are_made()
     ensures first { FirstLaw }
@@ -36,12 +36,12 @@ pub fn how_seats_are_made()
 {}
 
 /// What an allowed event keeps, whatever its kind. `rule`: the rule, and what the stamp and each section number select.
-/// `searches`: what is said of the plain tree, of what each seat's search claims and of what it reaches; a raise keeps it
-/// over the tree that is at the stamp then. `turns`: where plain links lead from the place of a search to the plain tree,
-/// they come to nodes below its turns; a node that is taken out is marked before it leaves the plain tree; and on a table
-/// of one pass what its seat has found stays as it is until it raises. `owes`: after a raise the stamp is a new number,
-/// at which the words spell the tree after the update; and the tag of each link that led to a node before, and leads to
-/// none then, is owed.
+/// `searches`: what is said of the plain tree, of what each seat's search claims and of what it reaches; a raise keeps
+/// it over the tree that is at the stamp then. `turns`: where plain links lead from the place of a search to the plain
+/// tree, they reach nodes below its turns; a node that is taken out is marked before it leaves the plain tree; and on a
+/// table of one pass what its seat has found stays as it is until it raises. `owes`: after a raise the stamp is a new
+/// number, at which the words spell the tree after the update; and the tag of each link that led to a node before, and
+/// leads to none then, is owed.
 pub fn kinds_keep_the_rule()
     ensures rule { RuleLaw }
     ensures searches { SearchesLaw }

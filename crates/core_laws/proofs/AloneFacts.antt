@@ -1,4 +1,4 @@
--- Numbers of passes, places of updates and chains, as far as it is asked who did something.
+-- Numbers of passes, places of updates and chains, for the question who did something.
 use Rattle.std.proofs.Common.{◌≡◌, ℕ, zero, suc, ◌+◌, ◌-◌, ◌<◌, ◌≤◌, ◌⊎◌, cond, List, [], ◌∷◌, length, Bool, true, false, eqb, ltb, ◌&&◌, arith, refl, ap, ◌∙◌, sym, subst, inl, inr, Option, Some, None}
 use Rattle.std.specs.List.{slice_get}
 use Rattle.std.proofs.lemmas.Bool.{eqb-true, eq-eqb}
@@ -22,7 +22,7 @@ counted n u (inr given) = omega (arith, given)
 pub number_there : (n passes : ℕ) → 0 < 0 + cond (ltb n passes) 1 0 → n < passes
 number_there n passes some = grind (arith, nat_tests)
 
--- who holds a place of a pass has the pass's number
+-- a view that holds a place of a pass has the pass's number
 pub own_placed : (n p : ℕ) (o : Option ℕ) (mine : List ℕ) → 0 < own_place n p o mine → o ≡ Some n
 own_placed n p None mine some = absurd (omega (arith, some))
 own_placed n p (Some k) mine some = by_test (eqb k n) refl some

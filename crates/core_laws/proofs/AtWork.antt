@@ -1,4 +1,5 @@
--- What a view at work has: it was not joined away, its words are in the table, and nothing of it is pending where it may leave.
+-- What a view at work has: it was not joined away, its words are in the table, and nothing of it is pending where it
+-- may leave.
 use Rattle.std.proofs.Common.{◌≡◌, ℕ, zero, suc, ◌<◌, ◌≤◌, ◌⊎◌, List, [], length, true, false, not, eqb, ◌&&◌, arith, refl, ap, ◌∙◌, sym, subst, inl, inr, Option, Some, None}
 use Rattle.std.specs.Prelude.{IfSome}
 use Rattle.std.specs.List.{slice_get, list_all}

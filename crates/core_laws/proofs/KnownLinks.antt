@@ -1,4 +1,5 @@
--- On a table of one pass a plain link, and its tag, hold what a seat remembers of them, or what it knows under its own lock.
+-- On a table of one pass a plain link, and its tag, hold what a seat remembers of them, or what it knows under its own
+-- lock.
 use Rattle.std.proofs.Common.{◌≡◌, ℕ, true, false, inl, inr, ◌∙◌, sym, subst, Some}
 use Rattle.index_words.specs.declared.side.Side.{Side}
 use Rattle.index_words.specs.declared.view.View.{View}

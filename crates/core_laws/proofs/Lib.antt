@@ -10,7 +10,8 @@ pub mod Laws
 pub mod Owners
 -- What a view shows, as the tests of needs find it.
 pub mod ViewTests
--- What a view at work has: it was not joined away, its words are in the table, and nothing of it is pending where it may leave.
+-- What a view at work has: it was not joined away, its words are in the table, and nothing of it is pending where it
+-- may leave.
 pub mod AtWork
 -- A seat whose view meets the need of an event may make it, in every table that meets the rule.
 pub mod ViewNeeds
@@ -44,7 +45,7 @@ pub mod CountFacts
 pub mod NumberLoads
 -- The slots of all views and of the tree are those of the layout.
 pub mod SlotSums
--- Numbers of passes, places of updates and chains, as far as it is asked who did something.
+-- Numbers of passes, places of updates and chains, for the question who did something.
 pub mod AloneFacts
 -- What is met in a table, and this seat did not do, another pass did.
 pub mod Elsewhere
@@ -68,5 +69,6 @@ pub mod Searching
 pub mod SearchTurns
 -- A search does not come back to a node at which it has turned.
 pub mod NoReturn
--- On a table of one pass a plain link, and its tag, hold what a seat remembers of them, or what it knows under its own lock.
+-- On a table of one pass a plain link, and its tag, hold what a seat remembers of them, or what it knows under its own
+-- lock.
 pub mod KnownLinks

@@ -1,4 +1,5 @@
--- A search does not come back to a node at which it has turned, as long as that is in the plain tree, nor to one whose plain link leads there.
+-- A search does not come back to a node at which it has turned, as long as that is in the plain tree, nor to one whose
+-- plain link leads there.
 use Rattle.std.proofs.Common.{◌≡◌, ℕ, ◌<◌, ◌≤◌, [], arith, refl, ap, ◌∙◌, sym, subst, inl, inr}
 use Rattle.index_words.specs.declared.side.Side.{Side}
 use Rattle.index_words.specs.declared.side.Side.TheVariants.{Left, Right}

@@ -73,7 +73,7 @@ head_stays number next t s head (e ∷ es) chain past is =
           select-here number s e es (omega (arith, past, here)) ∙ sym chain.0
     ]
 
--- so is the entry behind a head whose number is above both
+-- so is the entry after a head whose number is above both
 front_stays : (number next : ℕ → ℕ) (t s head : ℕ) (es : List ℕ) → IsChain next head es → t ≤ s → s < number head → select number t es ≡ next head
     → select number s es ≡ next head
 front_stays number next t s head [] chain past above is = is
@@ -83,7 +83,7 @@ front_stays number next t s head (e ∷ es) chain past above is =
     let then : select number t es ≡ next e = sym (select-behind number t e es (omega (arith, past, far))) ∙ is ∙ same in
     select-behind number s e es far ∙ head_stays number next t s (next e) es chain.2 past then ∙ sym same
 
--- from an empty bundle nothing is selected, and nor is it where nothing is behind a head whose number is above
+-- from an empty bundle nothing is selected, nor where nothing follows a head whose number is above
 pub none_stays : (number next : ℕ → ℕ) (s head : ℕ) (es : List ℕ) → IsChain next head es → head ≡ 0 → select number s es ≡ 0
 none_stays number next s head [] chain none = refl
 none_stays number next s head (e ∷ es) chain none = absurd (omega (arith, none, chain.0, chain.1))

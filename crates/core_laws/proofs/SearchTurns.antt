@@ -143,7 +143,8 @@ module _ (t : Table) (right : IsRight t) (i : ℕ) (v : View) (at : IsItem t.vie
             ]
           ]
 
-  -- the key at which the search stands lies beyond that of a turn, where both nodes are in the plain tree and the first was not taken out
+  -- the key at which the search stands lies beyond that of a turn, where both nodes are in the plain tree and the first
+  -- was not taken out
   beyond_by : (k key : ℕ) (side : Side) (turn : Turn) → v.reading.place ≡ AtNode k (Some key) → last_turn side v.reading ≡ Some turn
       → ¬ IsOut (undone gr vs) k → 0 < occurs k W → 0 < occurs turn.node W → IsBeyond side turn.key key
   beyond_by k key side turn is last kept here there =

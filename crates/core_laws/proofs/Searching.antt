@@ -272,7 +272,8 @@ module _ (t : Table) (right : IsRight t) (i : ℕ) (v : View) (at : IsItem t.vie
       })
       (over_point below key over, under_point above key under)
 
-  -- an entry is pending in no view at a node that the seat has locked and found unmarked, if it is not pending in this one
+  -- an entry is pending in no view at a node that the seat has locked and found unmarked, if it is not pending in this
+  -- one
   no_pending : (k e : ℕ) → v.update.pending ≡ [] → IsHeldUnmarked v k → IsPendingAt vs k e → ⊥
   no_pending k e none h pending =
       let term : Term (pending_count e) vs = term_of (pending_count e) vs (omega (arith, pending.0)) in

@@ -51,7 +51,7 @@ spelled_nodes g c (Branch s k v l r) spelled =
     every_joined (λ (n : TreeNode). ReadsKey g.key n.slot n.key) (tree_nodes l) _ (spelled_nodes g (g.child Left s) l spelled.4)
     ((spelled.1, spelled.2), spelled_nodes g (g.child Right s) r spelled.5)
 
--- so it is with the node of a null link of each tree that has the nodes of a spelled one
+-- the same holds of the node of a null link of each tree that has the nodes of a spelled one
 pub link_reads : (g : Graph) (c : ℕ) (tree other : NamedTree) (node key : ℕ) (side : Side) → IsSpelled g c tree → tree_nodes tree ≡ tree_nodes other
     → HasNullLink node key side other → ReadsKey g.key node key
 link_reads g c tree other node key side spelled same link =
@@ -99,7 +99,7 @@ root_gap g z node side (Branch s k v l r) spelled none is =
     let same : g.child Right 0 ≡ 0 = ap (g.child Right) (sym is.0) ∙ ap (λ w. g.child w node) (sym is.1) ∙ none in
     absurd (omega (arith, same, spelled.0, spelled.1))
 
--- where no child is read at a link of a node of the tree, the link has the gap beside the node's key
+-- where no child is read at a link of a node of the tree, the link has the gap next to the node's key
 pub node_gap : (g : Graph) (c z node : ℕ) (side : Side) (tree : NamedTree) → IsSpelled g c tree → 0 < occurs node tree → g.child side node ≡ 0
     → IsInGap side (g.key node) z tree → IsGapLink z node side 0 Right tree
 node_gap g c z node side Null spelled here none gap = absurd (omega (arith, here))

@@ -59,7 +59,7 @@ module _ (z : Layout) (m : Memory) (vs : List View) (g : Meaning) (rule : Rule z
   behind : (x : ℕ) → 0 < count x back → 0 < count x (g.bundles.bundle side node)
   behind x some = omega (arith, some, ap (count x) cut.splits, count-append x front (e ∷ back))
 
-  -- the bundle has each entry once, so that none behind is also in front
+  -- the bundle has each entry once, so that none after it is also in front of it
   not_twice : (x : ℕ) → 0 < count x back → 0 < count x (front ++ e ∷ []) → ⊥
   not_twice x some here =
       omega (

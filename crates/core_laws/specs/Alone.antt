@@ -1,5 +1,5 @@
--- Why a count of a view rises: what another pass did. So the counts of a pass that is alone on its table never rise, and what
--- it tries never fails for others.
+-- Why a count of a view rises: what another pass did. So the counts of a pass that is alone on its table never rise,
+-- and what it tries never fails for others.
 use Rattle.std.specs.Prelude.{◌≡◌, ◌≢◌, ℕ, ◌+◌, ◌<◌, ◌⊎◌, true, Some}
 use Rattle.std.specs.List.{slice_get}
 use Rattle.index_words.specs.declared.side.Side.{Side}
@@ -18,7 +18,7 @@ use Rattle.core_invariant.specs.OwnPlaces.{HasNumber}
 use Rattle.core_invariant.specs.Rule.{IsRight}
 use Rattle.core_laws.specs.Counts.{MeetsLock, FindsNoNumber, FindsOtherHead, FindsOtherChild, FindsOtherTag, FindsMark}
 
--- of another pass of the table than this view's this is so: of a view that has its number, or to which it was given up
+-- this holds of another pass of the table than this view's: of a view that has its number, or to which it was given up
 pub record AnotherPass (t : Table) (v : View) (does : ℕ → View → Type 0) : Type 0 where
   pub own : ℕ
   pub named : v.number ≡ Some own
@@ -61,7 +61,8 @@ pub record HasTakenOut (t : Table) (e : Event) (pass : ℕ) (view : View) : Type
   pub word : word_at t.layout e.word ≡ Some (Node Mark node)
   pub waits : 0 < count node view.retired.nodes + count node view.batch.nodes
 
--- what is met is another pass's: a lock that is held, an entry without a number, another head than the remembered one, a mark
+-- what is met is another pass's: a lock that is held, an entry without a number, another head than the remembered one,
+-- a mark
 pub record MetByOthers (t : Table) (e : Event) (v : View) : Type 0 where
   pub lock : MeetsLock t e → AnotherPass t v (HasLocked t e)
   pub number : FindsNoNumber t e v → AnotherPass t v (HasPending t e)

@@ -37,7 +37,8 @@ pub record WatchesBundle (v : View) (entry : ℕ) : Type 0 where
   pub place : v.reading.place ≡ AtEntry node side entry found
   pub watched : IsWatched v node
 
--- a load of the stamp of an entry that finds none, in a bundle that the seat watches, where it has not the entry pending
+-- a load of the stamp of an entry that finds none, in a bundle that the seat watches, where it does not have the entry
+-- pending
 pub record FindsNoNumber (t : Table) (e : Event) (v : View) : Type 0 where
   pub kind : e.kind ≡ LoadTs
   pub entry : ℕ
@@ -124,7 +125,7 @@ FindsOther t e v = FindsOtherHead t e v ⊎ (FindsOtherChild t e v ⊎ FindsOthe
 abbrev pub FixesPlace : Event → Type 0
 FixesPlace e = (e.kind ≡ LoadStamp) × (e.value ≡ 1)
 
--- a count rises where this is so, and else stays
+-- a count rises where this is so, and otherwise stays
 pub record RisesWhere (P : Type 0) (old new : ℕ) : Type 0 where
   pub rises : P → new ≡ risen old
   pub stays : ¬ P → new ≡ old
@@ -141,8 +142,8 @@ CountsLaw =
     (t : Table) (e : Event) (v w : View) → IsRight t → allowed t e ≡ true → slice_get t.views e.seat ≡ Some v
     → slice_get (after t e).views e.seat ≡ Some w → CountsRise t e v w
 
--- another head than the remembered one was not stored by a seat that has no entry pending, and whose own updates are all
--- ones that its section number has
+-- another head than the remembered one was not stored by a seat that has no entry pending, and whose own updates are
+-- all ones that its section number has
 abbrev pub OtherHeadLaw : Type 0
 OtherHeadLaw =
     (t : Table) (i n : ℕ) (v : View) (node : ℕ) (side : Side) → IsRight t → IsItem t.views i v → v.reading.section ≡ Some n

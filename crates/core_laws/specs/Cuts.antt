@@ -1,5 +1,5 @@
--- Cuts: what a seat's view shows where it may cut, which is that it has walked along the bundle under its lock; and that
--- nobody reads, then or later, what is cut off.
+-- Cuts: what a seat's view shows where it may cut, which is that it has walked along the bundle under its lock; and
+-- that nobody reads, then or later, what is cut off.
 use Rattle.std.specs.Prelude.{◌≡◌, ℕ, ◌<◌, ◌≤◌, ◌⊎◌, List, [], ◌∷◌, true, false, Some}
 use Rattle.index_words.specs.declared.layout.Layout.{Layout}
 use Rattle.index_words.specs.declared.side.Side.{Side}
@@ -42,8 +42,8 @@ abbrev pub HasWalkedTo : View → ℕ → ℕ → ℕ → List ℕ → ℕ → T
 HasWalkedTo v node least from [] last = from ≡ last
 HasWalkedTo v node least from (e ∷ es) last = (from ≡ e) × (passed : HasPassed v node least e) × HasWalkedTo v node least passed.next es last
 
--- cut: at a node that the seat has locked and found unmarked, and that its update did not take out, behind the first entry of
--- the bundle whose number is at most the least one, for which the seat has looked at every other pass
+-- cut: at a node that the seat has locked and found unmarked, and that its update did not take out, after the first
+-- entry of the bundle whose number is at most the least one, for which the seat has looked at every other pass
 pub record MayCut (v : View) (k : ℕ) (side : Side) (e : ℕ) : Type 0 where
   pub least : ℕ
   pub is : v.reading.least ≡ Some least

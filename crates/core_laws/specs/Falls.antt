@@ -1,4 +1,4 @@
--- Numbers fall along a bundle: what a load of a number finds behind an entry that was left behind.
+-- Numbers fall along a bundle: what a load of a number finds after an entry that the seat has gone past.
 use Rattle.std.specs.Prelude.{◌≡◌, ℕ, ◌<◌, Option, Some}
 use Rattle.key_map.specs.Lists.{IsItem}
 use Rattle.index_words.specs.declared.side.Side.{Side}
@@ -15,8 +15,8 @@ pub record FindsBelow (t : Table) (entry number : ℕ) : Type 0 where
   pub written : 0 < held_by t (Entry Number entry)
   pub below : held_by t (Entry Number entry) < number
 
--- a seat that stands at an entry of a node that it has locked, or has a section number, and has left behind an entry with
--- this number for it: a load of the number finds one above 0 and below
+-- a seat that stands at an entry of a node that it has locked, or has a section number, and has gone past an entry with
+-- this number to reach it: a load of the number finds one above 0 and below
 abbrev pub FallsLaw : Type 0
 FallsLaw =
     (t : Table) (i : ℕ) (v : View) (node : ℕ) (side : Side) (entry : ℕ) (found : Option ℕ) (number : ℕ) → IsRight t → IsItem t.views i v

@@ -61,8 +61,8 @@ pub record FindsNext (t : Table) (tree : NamedTree) (node : ℕ) (side : Side) (
   pub there : held_by t (Entry Next entry) ≤ t.layout.entries
   pub null : held_by t (Entry Next entry) ≡ 0 → LeadsTo tree node side 0
 
--- what a seat with this section number reads: a search tree, of which its view has the nodes, and whose contents are the
--- map after so many updates
+-- what a seat with this section number reads: a search tree, of which its view has the nodes, and whose contents are
+-- the map after so many updates
 pub record ReadsTree (t : Table) (v : View) (n : ℕ) : Type 0 where
   pub tree : NamedTree
   pub nodes : v.reading.tree ≡ tree_nodes tree

@@ -1,3 +1,4 @@
+-- The laws that callers cite: on who writes what, needs, loads, counts, trees, links, searches, waits and cuts.
 pub mod TreeLaw
 pub mod Remembered
 pub mod Owners

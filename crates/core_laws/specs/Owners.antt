@@ -85,6 +85,6 @@ pub record KeepsOwners (seat : ℕ) (t u : Table) : Type 0 where
   pub others : (i : ℕ) (v : View) (w : Word) → IsItem t.views i v → i ≢ seat → IsSteadyFor (held_by t) v w → held_by u w ≡ held_by t w
   pub fixed : (w : Word) → IsFixed (held_by t) t.views w → held_by u w ≡ held_by t w
 
--- so it is after each event that is allowed, from each table that meets the rule
+-- this holds after each event that is allowed, from each table that meets the rule
 abbrev pub OwnersLaw : Type 0
 OwnersLaw = (t : Table) (e : Event) → IsRight t → allowed t e ≡ true → KeepsOwners e.seat t (after t e)

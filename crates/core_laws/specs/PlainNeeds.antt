@@ -23,8 +23,8 @@ pub record IsHeldUnmarked (v : View) (k : ℕ) : Type 0 where
   pub locked : held_at k v.held.nodes ≡ Some held
   pub unmarked : held.mark ≡ Some 0
 
--- a link of a node that it has locked: the only one of the root, or one of a node that was found unmarked. Nothing is said of
--- what the links of a marked node hold
+-- a link of a node that it has locked: the only one of the root, or one of a node that was found unmarked. Nothing is
+-- said of what the links of a marked node hold
 pub record HasFirmLink (v : View) (k : ℕ) (side : Side) : Type 0 where
   pub locked : IsLocked v k
   pub root : k ≡ 0 → side ≡ Right

@@ -1,5 +1,5 @@
--- What the rule says of plain links. Each link of the tree at the stamp that no update has still to set leads where the tree
--- does; so at rest the plain links spell the tree at the stamp, word for word.
+-- What the rule says of plain links. Each link of the tree at the stamp that no update has still to set leads where the
+-- tree does; so at rest the plain links spell the tree at the stamp, word for word.
 use Rattle.std.specs.Prelude.{◌≡◌, ℕ, ◌+◌, ◌^◌, ◌<◌, ◌≤◌, List, [], false, true, All, Some}
 use Rattle.std.specs.List.{list_any, slice_get}
 use Rattle.index_words.specs.declared.layout.Layout.{Layout}
@@ -37,7 +37,8 @@ PlainTreeLaw =
 abbrev pub IsTreeLink : Table → ℕ → Side → Type 0
 IsTreeLink t k side = IsLinkIn 0 Right (tree_now t.layout (held_by t) t.views) k side
 
--- a link of that tree that no update has still to set holds the child that the tree has there, also while others are to be set
+-- a link of that tree that no update has still to set holds the child that the tree has there, even while others are to
+-- be set
 abbrev pub PlainLinkLaw : Type 0
 PlainLinkLaw =
     (t : Table) (k : ℕ) (side : Side) → IsRight t → IsTreeLink t k side → All (λ (v : View). list_any (is_link_of k side) v.update.unset ≡ false) t.views

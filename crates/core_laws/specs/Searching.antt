@@ -38,7 +38,7 @@ pub record IsBeforeRaise (v : View) : Type 0 where
   pub inside : is_even v.section_word ≡ false
   pub unraised : v.update.raised ≡ None
 
--- a search comes to no node that its own seat has taken out
+-- a search reaches no node that its own seat has taken out
 abbrev pub OwnLeftLaw : Type 0
 OwnLeftLaw =
     (t : Table) (i : ℕ) (v : View) (k : ℕ) → IsRight t → IsItem t.views i v → IsBeforeRaise v → 0 < count k (search_nodes 0 v.reading)
@@ -49,15 +49,16 @@ abbrev pub last_turn : Side → Reading → Option Turn
 last_turn Left r = r.left_turn
 last_turn Right r = r.right_turn
 
--- where a search stands at a node that is in the tree, and the node of a turn is unmarked, the key is beyond that of the turn
+-- where a search stands at a node that is in the tree, and the node of a turn is unmarked, the key is beyond that of
+-- the turn
 abbrev pub BeyondLaw : Type 0
 BeyondLaw =
     (t : Table) (i : ℕ) (v : View) (k key : ℕ) (side : Side) (turn : Turn) → IsRight t → IsItem t.views i v → IsBeforeRaise v
     → v.reading.place ≡ AtNode k (Some key) → last_turn side v.reading ≡ Some turn → IsHeldUnmarked v k
     → held_by t (Node Mark turn.node) ≡ 0 → IsBeyond side turn.key key
 
--- a search does not come back to a node at which it has turned and that its seat has locked, nor to a locked one whose plain link
--- leads there
+-- a search does not come back to a node at which it has turned and that its seat has locked, nor to a locked one whose
+-- plain link leads there
 abbrev pub NoReturnLaw : Type 0
 NoReturnLaw =
     (t : Table) (i : ℕ) (v : View) (k : ℕ) (key : Option ℕ) (side : Side) (turn : Turn) (held : HeldNode) → IsRight t → IsItem t.views i v
@@ -73,14 +74,15 @@ pub record HasKeys (t : Table) (v : View) : Type 0 where
 abbrev pub SearchKeysLaw : Type 0
 SearchKeysLaw = (t : Table) (i : ℕ) (v : View) → IsRight t → IsItem t.views i v → IsBeforeRaise v → HasKeys t v
 
--- the head of a bundle of a node that is locked and unmarked, in front of which the seat has put no entry, is none or has a number
+-- the head of a bundle of a node that is locked and unmarked, in front of which the seat has put no entry, is none or
+-- has a number
 abbrev pub HeadNumberedLaw : Type 0
 HeadNumberedLaw =
     (t : Table) (i : ℕ) (v : View) (k : ℕ) (side : Side) → IsRight t → IsItem t.views i v → v.update.pending ≡ []
     → IsHeldUnmarked v k → (held_by t (Node (Head side) k) ≡ 0) ⊎ (0 < held_by t (Entry Number (held_by t (Node (Head side) k))))
 
--- A plain link under the lock of its node, which was found unmarked: it is one of the tree at the stamp, and leads there to the
--- same child.
+-- A plain link under the lock of its node, which was found unmarked: it is one of the tree at the stamp, and leads
+-- there to the same child.
 abbrev pub HeldLinkLaw : Type 0
 HeldLinkLaw =
     (t : Table) (i : ℕ) (v : View) (k child : ℕ) (side : Side) (held : HeldNode) → IsRight t → IsItem t.views i v → v.update.raised ≡ None
@@ -96,8 +98,8 @@ abbrev pub IsUnder : Option ℕ → ℕ → Type 0
 IsUnder None key = Unit {0}
 IsUnder (Some high) key = key < high
 
--- A null link at which a search has ended, whose node is locked and was found unmarked, and which was found null again: in the
--- tree at the stamp each key between those of the two turns is in its gap. The tag is not needed for it.
+-- A null link at which a search has ended, whose node is locked and was found unmarked, and which was found null again:
+-- in the tree at the stamp each key between those of the two turns is in its gap. The tag is not needed for it.
 abbrev pub NullLinkLaw : Type 0
 NullLinkLaw =
     (t : Table) (i place : ℕ) (v : View) (l : ViewLink) (tag above below : Option ℕ) (held : HeldNode) → IsRight t → IsItem t.views i v
@@ -111,7 +113,8 @@ IsFoundStill t l (Bundle entry) = Unit {0}
 IsFoundStill t l (Plain None above below) = held_by t (Node (Link l.side) l.node) ≡ l.child
 IsFoundStill t l (Plain (Some tag) above below) = (held_by t (Node (Link l.side) l.node) ≡ l.child) × (held_by t (Node (Tag l.side) l.node) ≡ tag)
 
--- on a table of one pass nothing moves: no node of a search is marked or locked by another, and each plain link is as remembered
+-- on a table of one pass nothing moves: no node of a search is marked or locked by another, and each plain link is as
+-- remembered
 pub record IsStill (t : Table) (v : View) : Type 0 where
   pub unmarked : (k : ℕ) → 0 < count k (search_nodes 0 v.reading) → held_by t (Node Mark k) ≡ 0
   pub unlocked : (k : ℕ) → ¬ IsLocked v k → held_by t (Node Lock k) ≡ 0

@@ -23,8 +23,8 @@ abbrev pub linked_entries : Table → List ℕ → List ℕ
 linked_entries t [] = []
 linked_entries t (k ∷ ks) = entries_of (bundles_now t) k ++ linked_entries t ks
 
--- the slots of all views, with the nodes of the tree, and with the entries of the root's bundles and of these nodes', are
--- those of the layout
+-- the slots of all views, with the nodes of the tree, and with the entries of the root's bundles and of these nodes',
+-- are those of the layout
 pub record SlotsAddUp (t : Table) : Type 0 where
   pub nodes : sum_by (owned_count nodes_of) t.views + length (linked_nodes t) ≡ t.layout.nodes
   pub entries : sum_by (owned_count entries_in) t.views + length (linked_entries t (0 ∷ linked_nodes t)) ≡ t.layout.entries

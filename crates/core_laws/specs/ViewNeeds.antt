@@ -200,8 +200,8 @@ pub record MaySplit (v : View) (nodes : ℕ) : Type 0 where
   pub live : v.joined ≡ false
   pub few : (nodes ≡ 0) ⊎ ((nodes ≡ 1) × (0 < length v.free.nodes))
 
--- join with a seat that has this view: neither was joined away, and that one has neither a number nor a slot that waits, or
--- both are outside
+-- join with a seat that has this view: neither was joined away, and that one has neither a number nor a slot that
+-- waits, or both are outside
 pub record MayJoin (v other : View) : Type 0 where
   pub live : v.joined ≡ false
   pub other_live : other.joined ≡ false

@@ -61,8 +61,8 @@ LockedStaysLaw =
     (t : Table) (e : Event) → IsRight t → allowed t e ≡ true → (i k : ℕ) (v : View) → IsItem t.views i v → i ≢ e.seat → IsLocked v k
     → NodeStays (held_by t) (held_by (after t e)) k
 
--- a store of a plain link unlinks a successor: the update took out a node with two children, and its successor, which was not
--- the node's right child
+-- a store of a plain link unlinks a successor: the update took out a node with two children, and its successor, which
+-- was not the node's right child
 pub record UnlinksSuccessor (t : Table) (e : Event) (v : View) (u : Unlinking) : Type 0 where
   pub kind : e.kind ≡ SetLink
   pub word : word_at t.layout e.word ≡ Some (Node (Link u.side) u.parent)

@@ -67,7 +67,7 @@ pub fn what_a_wait_keeps()
     ensures looks { LooksLastLaw }
 {}
 
-/// What a cut takes is read by nobody. The section number of a seat selects no entry behind the one at which an allowed
+/// What a cut takes is read by nobody. The section number of a seat selects no entry after the one at which an allowed
 /// cut is, in any bundle of the root or of a node that is not free; nor does a number from the stamp on, as each
 /// section number is that a seat gets later.
 pub fn cuts_take_nothing_read()
@@ -75,12 +75,12 @@ pub fn cuts_take_nothing_read()
 {}
 
 /// Where the counts of a view rise. `busy` rises where a try of a lock finds the word held, which another pass then
-/// holds; `waits` where a load of an entry's stamp finds 0 and the seat has not the entry pending; `moves` where a load
-/// of a head finds another entry than the one that the seat remembers, or one of a plain link or a tag another word,
-/// and the seat did not store it, or where a load of a mark finds 1 on a node in reach, or one of the seat's search,
-/// that is not among its retired ones; `looks` where a load of the stamp fixes a place. At every other event the count
-/// stays. A seat with nothing pending, whose own updates are ones that its section number has, did not store the other
-/// head. What an update took out is among the seat's retired nodes, and no node of the tree at the stamp is.
+/// holds; `waits` where a load of an entry's stamp finds 0 and the seat does not have the entry pending; `moves` where
+/// a load of a head finds another entry than the one that the seat remembers, or one of a plain link or a tag another
+/// word, and the seat did not store it, or where a load of a mark finds 1 on a node in reach, or one of the seat's
+/// search, that is not among its retired ones; `looks` where a load of the stamp fixes a place. At every other event
+/// the count stays. A seat with nothing pending, whose own updates are ones that its section number has, did not store
+/// the other head. What an update took out is among the seat's retired nodes, and no node of the tree at the stamp is.
 pub fn where_counts_rise()
     ensures counts { CountsLaw }
     ensures other_head { OtherHeadLaw }
@@ -93,7 +93,7 @@ pub fn where_counts_rise()
 /// most the section number, the null link where a head or a next is found 0, and each remembered link are the tree's,
 /// and that entry is the selected one. A load of the stamp finds the whole history, of which the seat has seen a
 /// beginning. A tree is determined by its list of nodes; a bundle has at most as many entries as the table.
-/// Along a bundle the numbers fall: behind an entry whose number was found to be above 0, a load of the next entry's
+/// Along a bundle the numbers fall: after an entry whose number was found to be above 0, a load of the next entry's
 /// number finds one that is above 0 and smaller.
 pub fn what_loads_find()
     ensures reads { ReadLaw }
@@ -103,7 +103,7 @@ pub fn what_loads_find()
     ensures falls { FallsLaw }
 {}
 
-/// By whom the counts of a view rise: by another pass than the view's. A lock that is found held is one that a view of
+/// Who makes the counts of a view rise: another pass than the view's. A lock that is found held is one that a view of
 /// another pass has locked; an entry that is found without a number is pending in one; another head than the remembered
 /// one is pending in one, or its number is the place of an update of another pass; a node that is found marked waits in
 /// the slots of one. So on a table of one pass nothing of this is met, nor another plain link or tag than the seat
@@ -122,8 +122,9 @@ pub fn slots_add_up()
 {}
 
 /// Where plain links lead. Where no update has one still to set, the plain links spell the tree at the stamp, word for
-/// word. Also before, a link of that tree that no update has still to set leads where the tree does. The tag of a link
-/// of the tree is at most the greatest number of the link's bundle, and one that is still to be raised has room for it.
+/// word. Before that, too, a link of that tree that no update has still to set leads where the tree does. The tag of a
+/// link of the tree is at most the greatest number of the link's bundle, and one that is still to be raised has room
+/// for it.
 pub fn where_plain_links_lead()
     ensures tree { PlainTreeLaw }
     ensures link { PlainLinkLaw }
@@ -132,7 +133,7 @@ pub fn where_plain_links_lead()
 {}
 
 /// What a search on plain links may rely on, while other seats set links and take nodes out. A link that it loads holds
-/// a node of the table. It comes to no node that its own seat has taken out, and the keys that it has loaded are those
+/// a node of the table. It reaches no node that its own seat has taken out, and the keys that it has loaded are those
 /// of the nodes. Where it stands at a node that is locked and unmarked, and the node of a turn is unmarked, the key
 /// lies beyond that of the turn; and it does not come back to a locked and unmarked node at which it has turned, nor to
 /// a locked one that leads there. A link that is loaded under the lock of an unmarked node is one of the tree at the

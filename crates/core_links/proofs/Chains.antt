@@ -27,7 +27,7 @@ select-here number t e es h = rw (le-leb (number e) t h)
 pub select-behind : (number : ℕ → ℕ) (t e : ℕ) (es : List ℕ) → t < number e → select number t (e ∷ es) ≡ select number t es
 select-behind number t e es h = rw (lt-leb (number e) t h)
 
--- selection follows the numbering where it tells the same
+-- selection follows the numbering if the two agree
 pub select-agree : (t : ℕ) (number number' : ℕ → ℕ) (es : List ℕ) → AllByRecursion (AgreeAt t number number') es
     → select number t es ≡ select number' t es
 select-agree t number number' [] agree = refl

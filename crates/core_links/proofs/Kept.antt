@@ -6,7 +6,7 @@ use Rattle.core_links.specs.Selection.{NumberedAbove, IsFirstPlace, IsKept, Keep
 use Rattle.core_links.proofs.Compare.{compared, less, more, same}
 use Rattle.core_links.proofs.Chains.{select-here, select-behind}
 
--- stands in where no place of a bundle is read
+-- a placeholder where no place of a bundle is read
 no_entry : Entry
 no_entry = record { child = 0; stamp = 0 }
 
@@ -30,7 +30,7 @@ kept_some least bundle place first = record {
 pub kept_all : (least : ℕ) (bundle : List Entry) → NumberedAbove least bundle → IsKept least bundle (length bundle)
 kept_all least bundle above = record { all = λ _. refl; upto = λ place first. absurd (not_above least bundle place above first) }
 
--- nothing behind the first entry that may be selected is selected
+-- no entry after the first one that may be selected is selected
 select-take : (number : ℕ → ℕ) (t place : ℕ) (names : List ℕ) → place < length names → number (slice_index names place) ≤ t
     → select number t (take (suc place) names) ≡ select number t names
 select-take number t place [] within low = absurd (omega (arith, within))

@@ -28,7 +28,7 @@ selection t bundle (Some place) above first number names named =
     (omega (arith, named.numbers place d (omega (arith, named.long, first.within)), first.selected d))
     (λ k low. omega (arith, named.numbers k d (omega (arith, named.long, first.within, low)), first.passed k d low))
 
--- where every entry is above, none is selected
+-- if every entry has a greater number, none is selected
 pub none-selected : (t : ℕ) (bundle : List Entry) (place : Option ℕ) → IfSome place (IsFirstPlace t bundle) → NumberedAbove t bundle → IsNone place
 none-selected t bundle None first above = refl
 none-selected t bundle (Some place) first above =

@@ -1,2 +1,4 @@
+-- The definitions of this crate, by file.
+
 pub mod Bundle
 pub mod Selection

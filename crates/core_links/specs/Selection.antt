@@ -23,18 +23,17 @@ abbrev pub name_at : List ℕ → Option ℕ → ℕ
 name_at names None = 0
 name_at names (Some place) = slice_index names place
 
--- whatever the entries are named, the one at this place is selected
+-- however the entries are named, the one at this place is selected
 abbrev pub IsSelection : ℕ → List Entry → Option ℕ → Type 0
 IsSelection t bundle place =
     (number : ℕ → ℕ) (names : List ℕ) → Names number names bundle → select number t names ≡ name_at names place
 
--- whatever the entries are named: the entry stays selected where another numbering tells the same of each
--- entry at `t`
+-- however the entries are named: the entry stays selected if another numbering agrees on each entry at `t`
 abbrev pub StaysAtPlace : ℕ → List Entry → Option ℕ → Type 0
 StaysAtPlace t bundle place =
     (number : ℕ → ℕ) (names : List ℕ) → Names number names bundle → StaysSelected number t names (name_at names place)
 
--- and where an entry with a greater number is put in front
+-- and if an entry with a greater number is put in front
 abbrev pub StaysBehindFront : ℕ → List Entry → Option ℕ → Type 0
 StaysBehindFront t bundle place =
     (number : ℕ → ℕ) (names : List ℕ) → Names number names bundle → StaysBehind number t names (name_at names place)
@@ -44,12 +43,12 @@ abbrev pub IsWalkedToPlace : ℕ → List Entry → Option ℕ → Type 0
 IsWalkedToPlace t bundle place =
     (number : ℕ → ℕ) (names : List ℕ) → Names number names bundle → IsWalkedTo number t names (name_at names place)
 
--- how many entries are kept, from the front: up to and with the first that has a number of at most `least`, or all
+-- how many entries are kept, from the front: up to and including the first that has a number of at most `least`, or all
 pub record IsKept (least : ℕ) (bundle : List Entry) (kept : ℕ) : Type 0 where
   pub all : NumberedAbove least bundle → kept ≡ length bundle
   pub upto : (place : ℕ) → IsFirstPlace least bundle place → kept ≡ place + 1
 
--- whatever the entries are named, each number from `least` on selects among those that are kept what it selects among all
+-- however the entries are named, each number from `least` on selects among the kept entries what it selects among all
 abbrev pub KeepsSelected : ℕ → List Entry → ℕ → Type 0
 KeepsSelected least bundle kept =
     (number : ℕ → ℕ) (names : List ℕ) (t : ℕ) → Names number names bundle → least ≤ t

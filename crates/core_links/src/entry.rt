@@ -1,3 +1,4 @@
+// The entries of a bundle, which of them a number selects, and how many are kept.
 ghost use Rattle.std.specs.Prelude.{◌≡◌, ◌<◌, ◌↔◌, All, IsNone, IfSome};
 ghost use Rattle.core_links.specs.Selection.{IsFirstPlace, IsKept, IsSelection, IsWalkedToPlace, KeepsSelected, NumberedAbove, StaysAtPlace, StaysBehindFront};
 ghost use Rattle.core_links.specs.declared.entry.Entry.{Entry as BundleEntry};
@@ -11,8 +12,8 @@ pub struct Entry {
     pub stamp: u64,
 }
 
-/// The place of the entry that the number `t` selects: the first whose stamp is at most `t`. None exactly
-/// where there is none. Bundles have their newest entry first.
+/// The place of the entry that the number `t` selects: the first whose stamp is at most `t`. None exactly if there is
+/// none. Bundles have their newest entry first.
 pub fn select(bundle: &[Entry], t: u64) -> Option<usize>
     requires written { All (λ (e : BundleEntry). 0 < e.stamp) bundle.now }
     ensures none { IsNone result ↔ NumberedAbove t bundle.now }
@@ -25,8 +26,8 @@ pub fn select(bundle: &[Entry], t: u64) -> Option<usize>
     first_at_most(bundle, t)
 }
 
-/// How many entries of a bundle are kept, from the front, where nobody reads at a number below `least`: up to and with
-/// the one that `select` gives for it, or all. What stands behind them may be cut off.
+/// How many entries of a bundle are kept, from the front, if nobody reads at a number below `least`: up to and
+/// including the one that `select` gives for it, or all. The entries after them may be cut off.
 pub fn keep(bundle: &[Entry], least: u64) -> usize
     requires written { All (λ (e : BundleEntry). 0 < e.stamp) bundle.now }
     ensures kept { IsKept least bundle.now result }
@@ -38,7 +39,7 @@ pub fn keep(bundle: &[Entry], least: u64) -> usize
     }
 }
 
-// The place of the first entry whose stamp is at most `t`, in a bundle with pending entries too.
+// The place of the first entry whose stamp is at most `t`, also in a bundle with pending entries.
 fn first_at_most(bundle: &[Entry], t: u64) -> Option<usize>
     ensures none { IsNone result → NumberedAbove t bundle.now }
     ensures first { IfSome result (IsFirstPlace t bundle.now) }

@@ -38,7 +38,7 @@ stepped t e w changed found met is =
 abbrev pub IsStepOf : Event → Word → Step → Type 0
 IsStepOf e w s = parts_of s ≡ record { kind = e.kind; word = w; value = e.value; update = e.update }
 
--- the same event, whatever the number of its word is, is allowed where its word has the same name
+-- an allowed event stays allowed whatever the number of its word is, if the word has the same name
 same_allowed : (t : Table) (e : Event) (n : ℕ) (w : Word) (o : Option View)
     → allowed_at t e o (Some w) ≡ true → allowed_at t (record { seat = e.seat; kind = e.kind; word = n; value = e.value; update = e.update }) o (Some w) ≡ true
 same_allowed t e n w None met = met
@@ -106,7 +106,7 @@ refused_selections t changed bad (Ok x) is held same = cc
 refused_selections t changed bad (Err x) is held same =
     subst (λ (vs : List View). KeepsSelections t (record { layout = t.layout; words = t.words; views = vs })) (sym same) (same_selections t)
 
--- and it meets the rule as before
+-- a table that a refusal leaves as it was meets the rule as before
 pub refused_right : {T E : Type 0} (t : Table) (changed : List View) (bad : Bool) (r : Result T E) → IsRight t → bad ≡ is_err r → bad ≡ true → OnErr r (changed ≡ t.views)
     → IsRight (record { layout = t.layout; words = t.words; views = changed })
 refused_right t changed bad (Ok x) right is held same = cc

@@ -19,7 +19,7 @@ refused_from place t (e ∷ es) = cond (allowed t e) (refused_from (place + 1) (
 abbrev pub first_refused : Table → List Event → Option ℕ
 first_refused t events = refused_from 0 t events
 
--- a run is refused at the first event that is not allowed, or for want of memory
+-- a run is refused at the first event that is not allowed, or when out of memory
 abbrev pub IsRefusal : Option ℕ → RunError → Type 0
 IsRefusal refused (NotAllowed place) = refused ≡ Some place
 IsRefusal refused NoMemory = Unit {0}

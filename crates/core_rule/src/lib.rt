@@ -1,7 +1,7 @@
-//! The pure machine: a table as plain data, and the events that change it, one at a time. The rule that every event
-//! keeps stands in `core_invariant`, and why each event keeps it in `core_kept`. The machine is for tests: the program
-//! has none of its code. The layer above uses `State`, `run_of`, and the names of `core_events`, `core_kept` and
-//! `core_laws` that the machine gives as its own.
+//! The pure machine: a table as plain data, and the events that change it, one at a time. `core_invariant` has the
+//! rule that every event keeps, and `core_kept` the proof that each event keeps it. The machine is for tests: the
+//! program has none of its code. The layer above uses `State`, `run_of`, and the names of `core_events`, `core_kept`
+//! and `core_laws` that the machine exports as its own.
 #![tactic(auto)]
 
 mod opening;

@@ -81,7 +81,7 @@ fn add_passes(
     }
 }
 
-/// The views of the passes, and behind them the emptied first view.
+/// The views of the passes, and after them the emptied first view.
 pub(crate) fn opening_views(
     alloc: Global,
     layout: &Layout,

@@ -1,3 +1,4 @@
+// Runs of the machine: the events one after another, up to the first that is refused.
 ghost use Rattle.std.specs.Prelude.{◌≡◌, All, IfOk, IfErr, None};
 ghost use Rattle.index_words.specs.Sizes.{FitTable, layout_of};
 ghost use Rattle.core_events.specs.Openings.{opening};
@@ -21,8 +22,8 @@ pub enum RunError {
     NoMemory,
 }
 
-/// The state that the start and then the step of every event give, in order to the last. Its words spell the
-/// maps that it stands for, and its seats remember links and filled words as `State::step` says.
+/// The state after the start and the step of every event, in order. Its words spell the maps that it stands for, and
+/// its seats remember links and filled words as `State::step` says.
 pub fn run_of(
     alloc: Global,
     layout: &Layout,

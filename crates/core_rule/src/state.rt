@@ -1,3 +1,4 @@
+// The state of the machine: its start, its step, and what can be read of it.
 ghost use Rattle.std.specs.Prelude.{◌≡◌, ◌↔◌, ◌≤◌, All, OnOk, OnErr, IfOk, IsNone, IfSome, true, false, slice_index};
 ghost use Rattle.std.specs.List.{slice_get};
 ghost use Rattle.std.specs.Option.{option_copied};
@@ -67,8 +68,8 @@ impl State {
         self.views.get(seat as usize)
     }
 
-    /// The state at the start: all words are 0, and there is one view per pass, with that pass's slots free
-    /// and its calls left, and behind them the emptied first view.
+    /// The state at the start: all words are 0, and there is one view per pass, with that pass's slots free and its
+    /// calls left, and after them the emptied first view.
     pub fn start(alloc: Global, layout: &Layout, sizes: &[PassSize]) -> Result<State, NoMemory>
         requires fit { FitTable sizes.now }
         requires sums { layout.now ≡ layout_of sizes.now }
@@ -84,20 +85,20 @@ impl State {
         })
     }
 
-    /// Makes one step. It is refused exactly where the event's needs are not met, or for want of memory; the
-    /// state is then unchanged. No word has changed that another seat alone changes, and none that nobody
-    /// changes. Whatever the event is, neither the stamp nor a number that a seat reads at
-    /// selects another entry of a bundle of the root or of a node that is not free. At the stamp, and at each
-    /// number that a seat reads at, the words spell a search tree whose contents are the map after so many
-    /// updates. A seat that has not raised remembers a bundle's link as its number selects it, or as null
-    /// without a number; where it finds the link's node unmarked and not locked by another, and the bundle's
-    /// head as it was, the link is so in the tree at the stamp. What a seat has filled in its section is what
-    /// the word holds, as long as the slot is its own free one, or its own pending entry before the raise.
+    /// Makes one step. It is refused exactly if the event's needs are not met, or when out of memory; the state is
+    /// then unchanged. No word has changed that only another seat may change, and none that nobody may change. No
+    /// event changes which entry of a bundle of the root, or of a node that is not free, is selected by the stamp
+    /// before it or by a number that a seat reads at. At the stamp, and at each number that a seat reads at, the words
+    /// spell a search tree whose contents are the map after so many updates. A seat that has not raised remembers a
+    /// bundle's link as its number selects it, or as null without a number; if it finds the link's node unmarked and
+    /// not locked by another, and the bundle's head as it was, the link is the same in the tree at the stamp. What a
+    /// seat has filled in its section is what the word holds, as long as the slot is its own free one, or its own
+    /// pending entry before the raise.
     ///
     /// No event makes what a seat has seen shorter; a load of the stamp makes it the whole history, a split copies it,
-    /// and a join is told what the other seat had seen. An enter takes the own section word from even to odd, a leave
-    /// from odd to even, and no event changes another pass's, nor what another pass has announced. Each view knows the
-    /// places of its own updates.
+    /// and a join is given what the other seat had seen. An enter takes the own section word from even to odd, a leave
+    /// from odd to even, and no event changes the section word of another pass, nor what another pass has announced.
+    /// Each view knows the places of its own updates.
     pub fn step(&mut self, alloc: Global, event: &Event) -> Result<(), StepError>
         ensures ok { OnOk result ((allowed self.old event.now ≡ true) × (self.new ≡ after self.old event.now)) }
         ensures refused { (result ≡ Err StepError.NotAllowed) ↔ (allowed self.old event.now ≡ false) }

@@ -1,7 +1,7 @@
-// Runs the pure machine. With the word `rows` it reads tests from standard input, as `rows.rt` says, and prints
-// each row that does not hold, and how many there were. With a number it runs one pass in and out of its section,
-// so many events, and prints the section word afterwards; `bench/README.md` says how to measure with it. Without a
-// word it reads a run from standard input, and prints the words of the table afterwards, or the place of the first
+// Runs the pure machine. With the argument `rows` it reads tests from standard input, as `rows.rt` says, and prints
+// each row that does not hold, and how many there were. With a number it runs one pass in and out of its section, so
+// many events, and prints the section word afterwards; `bench/README.md` says how to measure with it. Without an
+// argument it reads a run from standard input, and prints the words of the table afterwards, or the place of the first
 // event that is refused.
 #![tactic(auto)]
 

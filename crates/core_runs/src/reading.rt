@@ -1,6 +1,6 @@
-// A run as text. The first line has the size of each pass, as `nodes,entries,calls`, between single spaces.
-// Each line behind it is an event: seat, kind, word and value, and for a raise the update as client, line,
-// key, and `Put` with its value or `Remove`. A word is given by its number.
+// A run as text. The first line has the size of each pass, as `nodes,entries,calls`, between single spaces. Each line
+// after it is an event: seat, kind, word and value, and for a raise the update as client, line, key, and `Put` with
+// its value or `Remove`. A word is given by its number.
 use core_rule::{Event, Kind};
 use index_words::{Change, PassSize, Update};
 use std::alloc::Global;
@@ -44,7 +44,7 @@ pub(crate) struct Run {
     pub(crate) events: Vec<Event>,
 }
 
-/// The run of a text. None where the text is none, or memory ran out.
+/// The run of a text. None if the text is not a run, or when out of memory.
 pub(crate) fn run_of_text(alloc: Global, text: &str) -> Option<Run> {
     let mut lines = text.lines();
     let sizes = sizes_of(alloc, lines.next()?)?;
@@ -55,7 +55,7 @@ pub(crate) fn run_of_text(alloc: Global, text: &str) -> Option<Run> {
     Some(Run { sizes, events })
 }
 
-/// The sizes of passes, between single spaces. None where one is none, or memory ran out.
+/// The sizes of passes, between single spaces. None if one is not a size, or when out of memory.
 pub(crate) fn sizes_of(alloc: Global, text: &str) -> Option<Vec<PassSize>> {
     let mut sizes = Vec::new(alloc);
     for size in text.split(' ') {
@@ -73,12 +73,12 @@ fn size_of(text: &str) -> Option<PassSize> {
     })
 }
 
-/// The number in the next field. None where there is no field, or it is no such number.
+/// The number in the next field. None if there is no field, or it is not such a number.
 pub(crate) fn next_u32(fields: &mut Split<'_, char>) -> Option<u32> {
     fields.next()?.parse::<u32>().ok()
 }
 
-/// The number in the next field. None where there is no field, or it is no such number.
+/// The number in the next field. None if there is no field, or it is not such a number.
 pub(crate) fn next_u64(fields: &mut Split<'_, char>) -> Option<u64> {
     fields.next()?.parse::<u64>().ok()
 }

@@ -57,7 +57,7 @@ fn node_of(text: &str) -> Option<TreeNode> {
     })
 }
 
-/// What a seat does. None where the text says nothing of the kind, or more than that.
+/// What a seat does. None if the text is not of this form, or has more than that.
 pub(crate) fn doing_of(layout: &Layout, seat: u32, text: &str) -> Option<Doing> {
     let (name, rest) = match text.split_once(' ') {
         None => (text, ""),

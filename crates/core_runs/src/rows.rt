@@ -4,13 +4,14 @@
 //     test NAME                           begins a test
 //     sizes 1,4,1 1,4,1                   the table at its start, with the nodes, entries and calls of each pass
 //     SEAT KIND WORD VALUE [UPDATE]       an event, which must be allowed
-//     SEAT begin                          enter, load of the stamp, announcement of what is seen then, load of the stamp
+//     SEAT begin                          enter, load of the stamp, announcement of what is seen then, load of the
+//                                         stamp
 //     SEAT end                            leave, and the announcement is taken back
 //     SEAT enter | leave | search KEY | lock NODE | unlock NODE | head LINK | entry ENTRY CHILD NEXT
 //     SEAT fill NODE KEY VAL LEFT RIGHT | prepare LINK ENTRY CHILD | raise KEY Put VAL | raise KEY Remove
 //     SEAT finalise ENTRY | mark NODE | link LINK CHILD | tag LINK
 //     SEAT put LINK ENTRY CHILD KEY VAL | remove LINK ENTRY CHILD NODE KEY
-//     refused SEAT ...                    an event or a raise, which must be refused, with all as it was
+//     refused SEAT ...                    an event or a raise, which must be refused, with everything unchanged
 //     word WORD VALUE                     what the word must hold
 //     view SEAT PART TEXT                 what the part of the seat's view must be
 //     no view SEAT                        there is no such seat
@@ -28,13 +29,13 @@ use std::alloc::{AllocError, Global};
 /// Why a row does not hold.
 #[derive(Debug, Drop)]
 pub(crate) enum Fault {
-    /// The text is no row, or there is no table yet.
+    /// The text is not a row, or there is no table yet.
     NoRow,
     NotAllowed,
     Allowed,
     /// The event was refused, and something is not as it was.
     Changed,
-    /// What was found in place of what the row wants.
+    /// What was found instead of what the row wants.
     Found(String),
     NoMemory,
 }
@@ -45,7 +46,7 @@ impl From<AllocError> for Fault {
     }
 }
 
-/// Carries a row out on the table, or compares what it says.
+/// Carries out a row on the table, or compares what it says.
 pub(crate) fn check_row(alloc: Global, table: &mut Option<Table>, row: &str) -> Result<(), Fault> {
     let (name, rest) = row.split_once(' ').ok_or(Fault::NoRow)?;
     if name == "sizes" {

@@ -52,7 +52,7 @@ const PARTS: [&str; 45] = [
     "unused_entries",
 ];
 
-/// The part with this name. None where no part has it.
+/// The part with this name. None if no part has it.
 pub(crate) fn part_of(
     alloc: Global,
     view: &View,

@@ -22,7 +22,7 @@ pub(crate) struct NewLink {
     pub(crate) child: u32,
 }
 
-/// A new node: its slot, its pair, and the entry of the bundle on each side, where there is one.
+/// A new node: its slot, its pair, and the entry of the bundle on each side, if there is one.
 #[derive(Clone, Copy)]
 pub(crate) struct NewNode {
     pub(crate) slot: u32,
@@ -67,7 +67,7 @@ fn is_searched(view: &View, node: u32) -> bool {
 }
 
 impl Table {
-    /// The table at the start. None where there is no such layout, or memory ran out.
+    /// The table at the start. None if there is no such layout, or when out of memory.
     pub(crate) fn start(alloc: Global, sizes: &[PassSize]) -> Option<Table> {
         let layout = Layout::new(sizes)?;
         let state = State::start(alloc, &layout, sizes).ok()?;
@@ -86,12 +86,12 @@ impl Table {
         self.state.view(seat)
     }
 
-    /// What the word with this number holds. None where there is no such word.
+    /// What the word with this number holds. None if there is no such word.
     pub(crate) fn word(&self, number: u64) -> Option<u64> {
         self.state.word(number)
     }
 
-    /// Makes a step. Whether it was allowed.
+    /// Makes a step. Returns whether it was allowed.
     pub(crate) fn makes(&mut self, event: &Event) -> bool {
         self.state.step(self.alloc, event).is_ok()
     }
@@ -137,7 +137,7 @@ impl Table {
         rows.iter().all(|row| self.has_node(row)) && self.child(0, Side::Right) == top
     }
 
-    /// Whether the seat has read just these nodes.
+    /// Whether the seat has read exactly these nodes.
     pub(crate) fn reads(&self, seat: u32, rows: &[TreeNode]) -> bool {
         match self.view(seat) {
             None => false,
@@ -189,8 +189,8 @@ impl Table {
         self.does(seat, Kind::LoadTag, word, 0)
     }
 
-    /// Where the seat's search goes on to this key: the root's link, or that of the node at which it stands. None where
-    /// it has ended, or the node's key could not be loaded.
+    /// The link by which the seat's search for this key goes on: the root's link, or that of the node at which it
+    /// stands. None if the search has ended, or the node's key could not be loaded.
     fn goes_on(&mut self, seat: u32, key: u64) -> Option<LinkName> {
         let node = match self.view(seat)?.reading.place {
             Place::Nowhere => {
@@ -214,7 +214,8 @@ impl Table {
         Some(LinkName { node, side })
     }
 
-    /// Searches by plain links for a key that is not there, and loads the tag of the null link at which the search ends.
+    /// Searches by plain links for a key that is not there, and loads the tag of the null link at which the search
+    /// ends.
     pub(crate) fn searches(&mut self, seat: u32, key: u64) -> bool {
         for _ in 0..=self.layout.nodes {
             let Some(link) = self.goes_on(seat, key) else {
@@ -230,8 +231,8 @@ impl Table {
         false
     }
 
-    /// Searches for a node by its key, from where the seat stands on. The root, and a node that the search knows, need no
-    /// search.
+    /// Searches for a node by its key, from where the seat stands on. The root, and a node that the search knows, need
+    /// no search.
     fn finds(&mut self, seat: u32, node: u32) -> bool {
         let key = self.holds(Word::Node(Field::Key, node));
         for _ in 0..=self.layout.nodes {

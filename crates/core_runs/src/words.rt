@@ -11,7 +11,7 @@ pub(crate) struct LinkName {
     pub(crate) side: Side,
 }
 
-/// The word of a name. None where it is no name.
+/// The word of a name. None if it is not a name of a word.
 fn word_named(name: &str) -> Option<Word> {
     if name == "stamp" {
         return Some(Word::Stamp);
@@ -38,7 +38,7 @@ fn word_named(name: &str) -> Option<Word> {
     })
 }
 
-/// The number of a word that is given by its name or by its number. None where it is neither.
+/// The number of a word that is given by its name or by its number. None if it is neither.
 pub(crate) fn address_of(layout: &Layout, name: &str) -> Option<u64> {
     match word_named(name) {
         Some(word) => Some(layout.address(word)),
@@ -46,7 +46,7 @@ pub(crate) fn address_of(layout: &Layout, name: &str) -> Option<u64> {
     }
 }
 
-/// The link of a name such as `left:3`. None where it names no link.
+/// The link of a name such as `left:3`. None if it names no link.
 pub(crate) fn link_named(name: &str) -> Option<LinkName> {
     match word_named(name)? {
         Word::Node(Field::Head(side), node) => Some(LinkName { node, side }),

@@ -1,7 +1,8 @@
+// Which entry of a bundle a number selects, and how many entries are kept.
 use core_links::{Entry, is_chain, keep, select};
 use std::test::Fail;
 
-/// The place that `t` selects among three entries, and how many of them are kept where nobody reads below it.
+/// The place that `t` selects among three entries, and how many of them are kept if nobody reads below it.
 fn answers_among_three(t: u64) -> (Option<usize>, usize) {
     let newest = Entry { child: 1, stamp: 7 };
     let middle = Entry { child: 0, stamp: 4 };

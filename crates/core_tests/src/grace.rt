@@ -1,3 +1,4 @@
+// Slots that a pass has retired, and the looks after which they are free.
 use core_grace::{current_looks, left_word, look_at, passed, settle};
 use index_words::{Items, Layout, NoMemory, View};
 use std::alloc::Global;

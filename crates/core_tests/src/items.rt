@@ -1,3 +1,4 @@
+// Lists of numbers, and maps that updates are replayed into.
 use key_map::{Change, Items, NoMemory, Pair, PlainMap, Update};
 use std::alloc::Global;
 use std::test::Fail;

@@ -1,3 +1,4 @@
+// Layouts of tables: the limits of their sizes, and the numbers of their words.
 use index_words::{Field, Layout, Part, PassSize, Side, Word};
 use std::test::Fail;
 

@@ -1,6 +1,6 @@
-//! Tests of the public calls of the pure machine and of the crates below it, which are proved once so and not a second
-//! time with their tests. The tests of each event and of whole updates are rows of text, which `core_runs` reads and
-//! compares.
+//! Tests of the public calls of the pure machine and of the crates below it, in a crate of their own, so that those
+//! crates are not proved a second time with their tests. The tests of each event and of whole updates are rows of text,
+//! which `core_runs` reads and compares.
 #![tactic(auto)]
 
 #[cfg(test)]

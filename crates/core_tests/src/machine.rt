@@ -1,10 +1,11 @@
+// Runs of the pure machine, up to their end or to the first event that is refused, and single steps.
 use core_rule::*;
 use index_words::{Change, Layout, PassSize, Update};
 use std::alloc::{AllocError, Global};
 use std::test::Fail;
 
-/// With one such pass the root's words are 3 to 12: its lock is word 5, its mark word 6, and the head, the plain link and
-/// the tag of its right side are words 8, 10 and 12.
+/// With one pass of this size the root's words are 3 to 12: its lock is word 5, its mark word 6, and the head, the
+/// plain link and the tag of its right side are words 8, 10 and 12.
 const SIZE: PassSize = PassSize {
     nodes: 1,
     entries: 4,
@@ -29,7 +30,7 @@ const fn leave() -> Event {
     event(Kind::Leave, 1, 2)
 }
 
-/// What a run answers: what a word holds then, or the place of the first event that is not allowed.
+/// What a run answers: what a word then holds, or the place of the first event that is not allowed.
 #[derive(Clone, Copy, Debug, PartialEq, Eq)]
 enum Answer {
     Word(u64),
@@ -67,7 +68,7 @@ fn a_run_ends_with_its_last_event_or_names_the_first_refused_one(
     Ok(())
 }
 
-/// The events of a put of key 5 with the value 7, but for one that is left out.
+/// The events of a put of key 5 with the value 7, except one that is left out.
 fn put_events(alloc: Global, left_out: Option<usize>) -> Result<Vec<Event>, AllocError> {
     let put = Update {
         client: 0,
@@ -157,7 +158,7 @@ fn a_step_says_why_it_is_refused(rt: HostRuntime) -> Result<(), Fail> {
     assert_eq!(rt; state.step(alloc, &enter()), Ok(()));
     assert_eq!(rt; state.word(1), Some(1));
     assert_eq!(rt; state.word(5), Some(0));
-    // the root's lock takes the own number plus 1 alone, and its mark nothing
+    // the root's lock takes only the own number plus 1, and its mark takes nothing
     let lock = event(Kind::TryLock, 5, 1);
     assert_eq!(rt;
         state.step(alloc, &event(Kind::TryLock, 5, 2)),

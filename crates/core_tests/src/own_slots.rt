@@ -1,3 +1,4 @@
+// The slots that a pass has retired, and when it may free them.
 use pass_slots::{OwnSlots, PassSlots, Waits};
 use std::test::Fail;
 

@@ -1,3 +1,4 @@
+// Lists of node slots and entry slots.
 use crate::items::items;
 use index_words::{Items, Slots};
 use std::test::Fail;

@@ -1,3 +1,4 @@
+// Trees: what a put and a removal make of them, what is found in them, and which tree lists spell.
 ghost use Rattle.std.specs.Prelude.{IfOk};
 ghost use Rattle.core_trees.specs.NamedTree.{IsLawful};
 ghost use Rattle.core_trees.specs.Shape.{shape};
@@ -30,7 +31,7 @@ fn tree_of(alloc: Global, rows: &[Row]) -> Result<Tree, TreeError>
     Ok(tree)
 }
 
-// The tree as `slot:key=val(left right)`, where a null link is a point.
+// The tree as `slot:key=val(left right)`, with a point for a null link.
 fn outline(tree: &Tree, out: &mut String) -> Result<(), AllocError> {
     match tree {
         Tree::Empty => out.push_str("."),

@@ -11,7 +11,7 @@ use Rattle.core_trees.specs.Search.{EndsAt, end_node}
 use Rattle.core_trees.specs.Gaps.{IsNull, IsGapLink, IsOnlyGapLink}
 use Rattle.core_trees.proofs.Gaps.{absent-gap, gap-ends, null-lacks, lacks-has, found-has}
 
--- what the walk to the link tells
+-- what the walk to the link shows
 abbrev pub EndLink : ℕ → ℕ → Side → NamedTree → Option Link → Type 0
 EndLink key root top tree r =
     MatchOption r (¬ IsNull (subtree_at key tree)) (λ link. IsNull (subtree_at key tree) × EndsAt key link.node link.side root top tree)

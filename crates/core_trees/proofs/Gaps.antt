@@ -55,7 +55,7 @@ gap-ends node key z low high root side top (Branch s k v l r) h (inr (inr below)
     let ends : EndsAt z node side s Right r = gap-ends node key z (k + 1) high s side Right r h.3 below (gap.0, gap.1.2) in
     (end_node-right z s k v l r root b ∙ ends.0, end_side-right z s k v l r top b ∙ ends.1)
 
--- where all keys lie on the other side of the key, or beyond `z`, all is clear
+-- if all keys lie on the other side of the key, or beyond `z`, all is clear
 clear-below : (low high key z : ℕ) (side : Side) (tree : NamedTree) → IsWithin low high tree → ((x : ℕ) → low ≤ x → x < high → ¬ IsBetween side key z x) → IsClear side key z tree
 clear-below low high key z side Null h apart = tt
 clear-below low high key z side (Branch s k v l r) h apart =
@@ -162,7 +162,7 @@ remove-clear slot y key z side (Branch s k u l r) clear =
 pub remove-widens : (slot y : ℕ) (tree : NamedTree) → WidensGaps tree (tree_remove slot y tree)
 remove-widens slot y tree key z side gap = (gap.0, remove-clear slot y key z side tree gap.1)
 
--- a key at whose search's end nothing hangs is not in the tree
+-- a key at the end of whose search nothing hangs is not in the tree
 lacks-outside : (low high key : ℕ) (tree : NamedTree) → IsWithin low high tree → (key < low) ⊎ (high ≤ key) → Lacks key tree
 lacks-outside low high key Null _ _ = tt
 lacks-outside low high key (Branch s k v l r) h (inl b) =

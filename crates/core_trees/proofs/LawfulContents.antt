@@ -1,4 +1,4 @@
--- A tree is lawful just where its contents are a map.
+-- A tree is lawful exactly if its contents are a map.
 use Rattle.std.proofs.Common.{ℕ, ◌+◌, ◌^◌, ◌<◌, ◌≤◌, List, [], ◌∷◌, ◌++◌, arith}
 use Rattle.key_map.specs.declared.pair.Pair.{Pair}
 use Rattle.key_map.specs.Map.{pair, RisesFrom}

@@ -1,11 +1,10 @@
--- Links of a spelled tree: where a search ends, and the tree step told by a few links.
+-- Links of a spelled tree: where a search ends, and the tree step in terms of a few links.
 -- Where a search ends: at the link of a linked node, through a subtree, and the first node of a tree.
 pub mod Ends
 -- What is known where a link leads to a node, and what stays where only some links change.
 pub mod Parts
--- The node behind another one.
+-- The node after another one.
 pub mod Next
--- The gap in front of a successor.
 -- Puts, and the removal of a node with at most one child.
 pub mod Steps
 -- The removal of a node with two children, whose successor is its right child.

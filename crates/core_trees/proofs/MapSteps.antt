@@ -33,7 +33,7 @@ pub AllFrom-less : (low lower : ℕ) (xs : List Pair) → lower ≤ low → AllF
 AllFrom-less low lower [] le _ = tt
 AllFrom-less low lower (p ∷ ps) le h = (omega arith, AllFrom-less low lower ps le h.1)
 
--- a put behind, at and before the first pair
+-- a put after, at and before the first pair
 map_put-behind : (key val : ℕ) (p : Pair) (ps : List Pair) → p.key < key → map_put key val (p ∷ ps) ≡ p ∷ map_put key val ps
 map_put-behind key val p ps h = rw (lt-ltb p.key key h)
 

@@ -24,7 +24,7 @@ null-child : (g : Graph) (side : Side) (s : ℕ) (l r : NamedTree) → IsSpelled
 null-child g Left s l r hl hr e = null-spelled g (g.child Left s) l hl e
 null-child g Right s l r hl hr e = null-spelled g (g.child Right s) r hr e
 
--- one of two numbers is above 0 where their sum is
+-- one of two numbers is above 0 if their sum is
 one-above : (a b : ℕ) → 0 < a + b → (0 < a) ⊎ (0 < b)
 one-above zero b h = inr (omega (arith, h))
 one-above (suc a) b h = inl (omega arith)

@@ -13,8 +13,8 @@ use Rattle.core_trees.proofs.Bounds.{first-within}
 use Rattle.core_trees.proofs.Updates.{update-left, update-right, update-here, subtree_at-left, subtree_at-right, subtree_at-here, end_node-left, end_node-right, end_node-here, end_side-left, end_side-right, end_side-here}
 use Rattle.core_trees.proofs.SpelledTree.{spelled-frame, spelled-swap}
 
--- a changed subtree that is spelled at one link is spelled at the link at which the search ends, where these
--- are one
+-- a changed subtree that is spelled at one link is spelled at the link at which the search ends, if the two links are
+-- the same
 along : (g : Graph) (key root root' : ℕ) (top top' : Side) (f : NamedTree → NamedTree) (tree tree' : NamedTree)
     → end_node key root tree ≡ end_node key root' tree' → end_side key top tree ≡ end_side key top' tree'
     → subtree_at key tree ≡ subtree_at key tree'
@@ -60,7 +60,7 @@ pub subtree_law : SubtreeLaw
 subtree_law g root key top tree h =
     update_end_law g root key top (λ t. t) tree (subst (IsSpelled g (g.child top root)) (sym (update-same key tree)) h)
 
--- the top of a put where its search ends is the new node
+-- the top of a put at the end of its search is the new node
 put-top : (g : Graph) (c slot key val : ℕ) (tree : NamedTree) → IsSpelled g c (put_here slot key val tree) → (c ≡ slot) × (0 < slot)
 put-top g c slot key val Null h = (h.0, h.1)
 put-top g c slot key val (Branch s k v l r) h = (h.0, h.1)
@@ -69,7 +69,7 @@ pub put_end_law : PutEndLaw
 put_end_law g root slot key val top tree h =
     put-top g (end_child g key root top tree) slot key val (subtree_at key tree) (update_end_law g root key top (put_here slot key val) tree h)
 
--- the swap, where it is known what the subtree is
+-- the swap, if it is known what the subtree is
 swapped : (g g' : Graph) (root key : ℕ) (top : Side) (f : NamedTree → NamedTree) (tree sub : NamedTree) → NamesOnce root tree
     → IsSpelled g (g.child top root) tree → KeepsOutside g g' key root top tree → subtree_at key tree ≡ sub
     → IsSpelled g' (end_child g' key root top tree) (f sub) → IsSpelled g' (g'.child top root) (update key f tree)
@@ -105,7 +105,7 @@ lift_right_law g g' root slot key s k v top r tree once spelled kept sub same_r 
     swapped g g' root key top (remove_here slot) tree (Branch s k v Null r) once spelled kept sub
     (subst (λ c. IsSpelled g' c r) (sym link) (spelled-frame g g' (g.child Right s) r same_r was.5))
 
--- without a right child the left tree stands in the place of the node
+-- without a right child the left tree takes the place of the node
 joined-left : (slot : ℕ) (l : NamedTree) → joined slot l Null ≡ l
 joined-left slot Null = refl
 joined-left slot (Branch s k v l r) = refl
@@ -126,7 +126,7 @@ join_law g g' root slot key s k v ls lk lv rs rk rv c top ll lr rl rr tree once 
     (Branch ls lk lv ll lr) (without_first (Branch rs rk rv rl rr)) link node
     (spelled-frame g g' (g.child Left s) (Branch ls lk lv ll lr) same_l was.4) rest)
 
--- to lose the first node is to remove its key
+-- removing the first node is removing its key
 first-removed : (low high s k v : ℕ) (l r : NamedTree) → IsWithin low high (Branch s k v l r)
     → update (first_pair k v l).key (remove_here 0) (Branch s k v l r) ≡ without_first (Branch s k v l r)
 first-removed low high s k v Null r h = update-here k (remove_here 0) s k v Null r refl

@@ -1,4 +1,4 @@
--- The test for a spelled tree says just that.
+-- The test for a spelled tree holds exactly if the tree is spelled.
 use Rattle.std.proofs.Common.{◌≡◌, ℕ, true, eqb, ltb, ◌&&◌}
 use Rattle.std.proofs.lemmas.Bool.{eqb-true, ltb-true, and_parts, and_from, eq-eqb, lt-ltb}
 use Rattle.index_words.specs.declared.side.Side.TheVariants.{Left, Right}

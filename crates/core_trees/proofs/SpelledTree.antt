@@ -1,5 +1,5 @@
--- The spelled tree: it is the only one, it stays where its nodes stay, and a changed subtree at one link is
--- an update of the whole.
+-- The spelled tree: it is the only one, it stays if its nodes stay, and a changed subtree at one link is an update of
+-- the whole.
 use Rattle.std.proofs.Common.{◌≡◌, ℕ, ◌+◌, ◌<◌, ◌≤◌, ◌⊎◌, inl, inr, refl, ap, sym, ◌∙◌, subst, arith}
 use Rattle.index_words.specs.declared.side.Side.{Side}
 use Rattle.index_words.specs.declared.side.Side.TheVariants.{Left, Right}

@@ -29,7 +29,7 @@ remove_contents slot key tree new e h = ap contents e ∙ contents-remove slot k
 pub remove_lawful : (slot key : ℕ) (tree new : NamedTree) → new ≡ tree_remove slot key tree → IsLawful tree → IsLawful new
 remove_lawful slot key tree new e h = subst IsLawful (sym e) (remove-within slot key 0 (2 ^ 64) tree h)
 
--- the first pair from a key on is the one that the search comes to
+-- the first pair from a key on is the one that the search reaches
 search-contents : (key low high : ℕ) (tree : NamedTree) → IsWithin low high tree → search_from key tree ≡ first_from key (contents tree)
 search-contents key low high Null _ = refl
 search-contents key low high (Branch s k v l r) h =

@@ -1,4 +1,4 @@
--- A tree that is spelled at a number stays so where the selections stay.
+-- A tree that is spelled at a number stays so if the selections stay.
 use Rattle.std.proofs.Common.{inl, inr, refl, ap, subst}
 use Rattle.index_words.specs.declared.side.Side.TheVariants.{Left, Right}
 use Rattle.core_trees.specs.SpelledTree.{IsSpelled}

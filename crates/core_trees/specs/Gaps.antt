@@ -1,7 +1,6 @@
--- The gaps of a tree. A null link stands between two neighbours of the contents, and its gap is the open
--- interval between their keys. The node of the link is one of the two; up to the other no key stands in
--- between. So a key is in the gap where it lies on the link's side of that node's key, and no key of the
--- tree lies between the two.
+-- The gaps of a tree. A null link stands between two neighbours of the contents, and its gap is the open interval
+-- between their keys. The node of the link is one of the two; no key lies between it and the other. So a key is in the
+-- gap if it lies on the link's side of that node's key, and no key of the tree lies between the two.
 use Rattle.std.specs.Prelude.{◌≡◌, ℕ, ◌<◌, ◌≤◌, ◌⊎◌}
 use Rattle.index_words.specs.declared.side.Side.{Side}
 use Rattle.index_words.specs.declared.side.Side.TheVariants.{Left, Right}

@@ -1,3 +1,5 @@
+-- The definitions of this crate, by file.
+
 pub mod NamedTree
 pub mod TreeStep
 pub mod Shape

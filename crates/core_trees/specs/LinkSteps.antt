@@ -1,5 +1,5 @@
--- The tree step by links: what has to be read at a few links of a spelled tree before and after a change, so
--- that the tree after the step is spelled. No search is told: where it ends follows from the links.
+-- The tree step by links: what has to be read at a few links of a spelled tree before and after a change, so that the
+-- tree after the step is spelled. Nothing is said of searches: where one ends follows from the links.
 use Rattle.std.specs.Prelude.{◌≡◌, ℕ, ◌<◌, ◌⊎◌}
 use Rattle.index_words.specs.declared.side.Side.{Side}
 use Rattle.index_words.specs.declared.side.Side.TheVariants.{Left, Right}
@@ -26,8 +26,8 @@ pub record IsChildLink (g : Graph) (root : ℕ) (top : Side) (tree : NamedTree) 
   pub child : g.child side parent ≡ node
   pub some : 0 < node
 
--- keys and values are the same, and so are the children of the root and of the tree's nodes, but at the links that
--- `changed` tells
+-- keys and values are the same, and so are the children of the root and of the tree's nodes, except at the links that
+-- `changed` names
 pub record KeepsLinks (g g' : Graph) (changed : ℕ → Side → Type 0) (root : ℕ) (tree : NamedTree) : Type 0 where
   pub keys : (x : ℕ) → g.key x ≡ g'.key x
   pub vals : (x : ℕ) → g.val x ≡ g'.val x
@@ -65,7 +65,7 @@ LiftByLinkLaw =
     → g'.child side parent ≡ child
     → IsSpelled g' (g'.child top root) (tree_remove slot (g.key node) tree)
 
--- the node behind another one: it has a greater key, and each key between is in the gap of its left link
+-- the node after another one: it has a greater key, and each key between is in the gap of its left link
 pub record IsNext (g : Graph) (root : ℕ) (top : Side) (tree : NamedTree) (node parent : ℕ) (side : Side) (next : ℕ) : Type 0 where
   pub at : IsChildLink g root top tree parent side next
   pub above : g.key node < g.key next
@@ -81,8 +81,8 @@ JoinNearLaw =
     → IsNodeOf g' slot (g.key next) (g.val next) (g.child Left node) (g.child Right next) → g'.child side parent ≡ slot
     → IsSpelled g' (g'.child top root) (tree_remove slot (g.key node) tree)
 
--- and where it is deeper: the new node has the removed node's children, and at the link to the next node hangs that
--- one's right child
+-- and if it is deeper: the new node has the removed node's children, and at the link to the next node hangs that node's
+-- right child
 abbrev pub JoinDeepLaw : Type 0
 JoinDeepLaw =
     (g g' : Graph) (root slot parent node below next : ℕ) (top side turn : Side) (tree : NamedTree) → IsTreeAt g root top tree

@@ -28,6 +28,6 @@ IsLawful tree = IsWithin 0 (2 ^ 64) tree
 abbrev pub HasMapContents : NamedTree → Type 0
 HasMapContents tree = IsMap (contents tree) × AllByRecursion (λ (p : Pair). p.key < 2 ^ 64) (contents tree)
 
--- a tree is lawful just where its contents are a map
+-- a tree is lawful exactly if its contents are a map
 abbrev pub LawfulLaw : Type 0
 LawfulLaw = (tree : NamedTree) → IsLawful tree ↔ HasMapContents tree

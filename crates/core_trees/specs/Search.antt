@@ -1,4 +1,4 @@
--- Where a search of the tree comes to.
+-- What a search of the tree reaches.
 use Rattle.std.specs.Prelude.{◌≡◌, ℕ, nat_lt, Option, Some, None, if◌then◌else◌}
 use Rattle.std.specs.Option.{option_or}
 use Rattle.key_map.specs.declared.pair.Pair.{Pair}
@@ -7,7 +7,7 @@ use Rattle.index_words.specs.declared.side.Side.TheVariants.{Left, Right}
 use Rattle.key_map.specs.Map.{pair}
 use Rattle.core_trees.specs.NamedTree.{NamedTree, Null, Branch}
 
--- the pair that a search for the first key from `key` on comes to
+-- the pair that a search for the first key from `key` on reaches
 abbrev pub search_from : ℕ → NamedTree → Option Pair
 search_from key Null = None
 search_from key (Branch slot k val left right) =

@@ -28,12 +28,12 @@ first_slots Null = []
 first_slots (Branch slot key val Null right) = slot ∷ []
 first_slots (Branch slot key val (Branch s k v left right') right) = first_slots (Branch s k v left right')
 
--- the successor's slot, where a node with these children is removed: with two children it goes too
+-- the successor's slot, if a node with these children is removed: with two children the successor is taken out too
 abbrev pub successor_slots : NamedTree → NamedTree → List ℕ
 successor_slots Null right = []
 successor_slots (Branch slot key val left right') right = first_slots right
 
--- the slot of the new node, where a node with these children is removed: with two children there is one
+-- the slot of the new node, if a node with these children is removed: with two children there is one
 abbrev pub joint_slots : ℕ → NamedTree → NamedTree → List ℕ
 joint_slots slot (Branch s key val left right') (Branch t k v left' right'') = slot ∷ []
 joint_slots slot _ _ = []
@@ -66,12 +66,12 @@ abbrev pub MovesSlots : List ℕ → List ℕ → NamedTree → NamedTree → Ty
 MovesSlots out brought old new =
     (h : ℕ → ℕ) → (tally h new + sum_by h out ≡ tally h old + sum_by h brought) × (sum_by h out ≤ tally h old)
 
--- an update changes a sum over slots by as much as the subtree at which the search ends
+-- an update changes a sum over slots by as much as it changes the sum over the subtree at which the search ends
 abbrev pub UpdateTallyLaw : Type 0
 UpdateTallyLaw =
     (h : ℕ → ℕ) (key : ℕ) (f : NamedTree → NamedTree) (tree : NamedTree)
     → tally h (update key f tree) + tally h (subtree_at key tree) ≡ tally h tree + tally h (f (subtree_at key tree))
 
--- no slot stands in the tree twice, and the root of the tree does not stand in it
+-- no slot occurs in the tree twice, and the root of the tree does not occur in it
 abbrev pub NamesOnce : ℕ → NamedTree → Type 0
 NamesOnce root tree = (x : ℕ) → one_at x root + occurs x tree ≤ 1

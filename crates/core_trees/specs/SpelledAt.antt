@@ -22,8 +22,8 @@ abbrev pub IsSpelledAt : (ℕ → ℕ) → (ℕ → ℕ) → (ℕ → ℕ) → (
 IsSpelledAt key val ptr number bundle t root tree =
     IsSpelled (graph_at key val ptr number bundle t) ((graph_at key val ptr number bundle t).child Right root) tree
 
--- a tree stays spelled at a number where that number selects the same entry at each link of the root and of
--- the tree's nodes
+-- a tree stays spelled at a number if that number selects the same entry at each link of the root and of the tree's
+-- nodes
 abbrev pub VersionLaw : Type 0
 VersionLaw =
     (key val ptr number number' : ℕ → ℕ) (bundle bundle' : Side → ℕ → List ℕ) (t root : ℕ) (tree : NamedTree)

@@ -7,8 +7,7 @@ use Rattle.core_trees.specs.TreeStep.{update, subtree_at}
 use Rattle.core_trees.specs.Search.{end_node, end_side}
 use Rattle.core_trees.specs.Slots.{occurs, NamesOnce}
 
--- what is read of the nodes at one number: the key and the value of each, and its child on each side, where
--- 0 is none
+-- what is read of the nodes at one number: the key and the value of each, and its child on each side; 0 is none
 pub record Graph : Type 0 where
   pub key : ℕ → ℕ
   pub val : ℕ → ℕ
@@ -38,7 +37,7 @@ pub record SameAt (g g' : Graph) (node : ℕ) : Type 0 where
 abbrev pub IsOutside : ℕ → ℕ → NamedTree → ℕ → Type 0
 IsOutside key root tree node = (node ≡ root) ⊎ (occurs node (subtree_at key tree) < occurs node tree)
 
--- the second graph has the same nodes outside of that subtree, but for the link at which the search ends
+-- the second graph has the same nodes outside of that subtree, except for the link at which the search ends
 pub record KeepsOutside (g g' : Graph) (key root : ℕ) (top : Side) (tree : NamedTree) : Type 0 where
   pub keys : (z : ℕ) → IsOutside key root tree z → g.key z ≡ g'.key z
   pub vals : (z : ℕ) → IsOutside key root tree z → g.val z ≡ g'.val z
@@ -53,8 +52,8 @@ IsOnlySpelled g c tree = (other : NamedTree) → IsSpelled g c other → other �
 abbrev pub StaysSpelled : Graph → ℕ → NamedTree → Type 0
 StaysSpelled g c tree = (g' : Graph) → ((x : ℕ) → 0 < occurs x tree → SameAt g g' x) → IsSpelled g' c tree
 
--- where a changed subtree is spelled at the link at which the search ends, in a tree that hangs at a link to
--- this child, the update of the whole tree is spelled
+-- if a changed subtree is spelled at the link at which the search ends, in a tree that hangs at a link to this child,
+-- the update of the whole tree is spelled
 abbrev pub SwapsSpelled : Graph → ℕ → NamedTree → Type 0
 SwapsSpelled g c tree =
     (g' : Graph) (root key : ℕ) (top : Side) (f : NamedTree → NamedTree) → NamesOnce root tree

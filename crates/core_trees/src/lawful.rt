@@ -1,3 +1,4 @@
+// The test whether a tree is lawful.
 ghost use Rattle.std.specs.Prelude.{◌↔◌, IsTrue};
 ghost use Rattle.core_trees.specs.NamedTree.{IsLawful, IsWithin, HasMapContents};
 ghost use Rattle.core_trees.specs.Bounds.{low_above, high_below};

@@ -1,3 +1,4 @@
+// The links of a tree, and its root.
 use index_words::Side;
 
 /// The node above the top of the tree. It has no key, and the tree hangs at its right link.

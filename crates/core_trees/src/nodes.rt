@@ -1,3 +1,4 @@
+// The tree that lists of keys, values and children spell.
 ghost use Rattle.std.specs.Prelude.{◌≡◌, ◌↔◌, IsTrue, slice_index};
 ghost use Rattle.core_trees.specs.Shape.{shape};
 ghost use Rattle.core_trees.specs.NodeLists.{graph_of};
@@ -5,20 +6,20 @@ ghost use Rattle.core_trees.specs.SpelledTree.{IsSpelled, IsOnlySpelled, StaysSp
 
 use crate::tree::Tree;
 
-/// What is read of the nodes at one number. The place in each list is the slot of the node; a slot past a
-/// list's end reads as 0.
+/// What is read of the nodes at one number. The place in each list is the slot of the node; a slot past a list's end
+/// reads as 0.
 #[derive(Clone, Copy)]
 pub struct NodeLists<'a> {
     pub keys: &'a [u64],
     pub vals: &'a [u64],
-    /// The left child of each node, where 0 is none.
+    /// The left child of each node; 0 is none.
     pub lefts: &'a [u32],
-    /// The right child of each node, where 0 is none.
+    /// The right child of each node; 0 is none.
     pub rights: &'a [u32],
 }
 
-/// Whether the nodes spell the tree from the child on: the top is the child, each node's key and value are
-/// as read, and its children are spelled from its two links on.
+/// Whether the nodes spell the tree from the child on: the top is the child, each node's key and value are as read, and
+/// its children are spelled from its two links on.
 pub fn spells(nodes: &NodeLists<'_>, child: u32, tree: &Tree) -> bool
     ensures spelled { IsTrue result ↔ IsSpelled (graph_of nodes.now) child (shape tree.now) }
     ensures only { IsTrue result → IsOnlySpelled (graph_of nodes.now) child (shape tree.now) }

@@ -1,3 +1,4 @@
+// The null link at which the search for an absent key ends.
 ghost use Rattle.std.specs.Prelude.{◌≡◌, ◌↔◌, IsTrue, IsNone, IfSome, MatchOption};
 ghost use Rattle.core_trees.specs.Gaps.{IsGapLink, IsOnlyGapLink, IsNull};
 ghost use Rattle.core_trees.specs.NamedTree.{contents, IsLawful};
@@ -12,8 +13,8 @@ use crate::tree::Tree;
 use index_words::Side;
 
 impl Tree {
-    /// The null link in whose gap the key is, or `None` where the key is in the tree. The search for the key
-    /// ends there. In the empty tree it is the right link of the root, whose gap has all keys.
+    /// The null link whose gap contains the key, or `None` if the key is in the tree. The search for the key ends
+    /// there. In the empty tree it is the right link of the root, whose gap contains all keys.
     pub fn gap_link(&self, key: u64) -> Option<Link>
         requires lawful { IsLawful (shape self.now) }
         ensures present { IsNone result ↔ IsTrue (map_has key (contents (shape self.now))) }
@@ -30,7 +31,7 @@ impl Tree {
         )
     }
 
-    // The link at which the search for the key ends, where it is null, in a tree that hangs at the link `at`.
+    // The link at which the search for the key ends, if it is null, in a tree that hangs at the link `at`.
     fn end_link(&self, key: u64, at: Link) -> Option<Link>
         ensures { MatchOption result (¬ IsNull (subtree_at key (shape self.now)))
             (λ link. IsNull (subtree_at key (shape self.now))

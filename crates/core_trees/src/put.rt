@@ -1,3 +1,4 @@
+// The tree step of a put.
 ghost use Rattle.std.specs.Prelude.{◌≡◌, [], ◌∷◌, IfOk, IfErr};
 ghost use Rattle.core_trees.specs.Gaps.{WidensOtherGaps};
 ghost use Rattle.core_trees.specs.NamedTree.{contents, IsLawful};
@@ -11,8 +12,8 @@ use std::alloc::Global;
 use std::mem;
 
 impl Tree {
-    /// The tree with the key at this value, in a new node with this slot: a leaf, or a node in the place of
-    /// the key's, with the same children.
+    /// The tree with the key at this value, in a new node with this slot: a leaf, or a node in the place of the key's,
+    /// with the same children.
     pub fn put(self, alloc: Global, slot: u32, key: u64, val: u64) -> Result<Tree, TreeError>
         requires lawful { IsLawful (shape self) }
         ensures step { IfOk result (λ tree. shape tree ≡ tree_put slot key val (shape self)) }

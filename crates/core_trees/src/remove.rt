@@ -1,3 +1,4 @@
+// The tree step of a removal.
 ghost use Rattle.std.specs.Prelude.{◌≡◌};
 ghost use Rattle.key_map.specs.Map.{map_remove};
 ghost use Rattle.core_trees.specs.Gaps.{WidensGaps};
@@ -11,9 +12,8 @@ use index_words::Pair;
 use std::mem;
 
 impl Tree {
-    /// The tree without the key. A node with two children gives way to a node with this slot and the
-    /// successor's pair, in the same box, so no memory is wanted. Where the key is not in the tree, the tree
-    /// stays as it is.
+    /// The tree without the key. A node with two children is replaced by a node with this slot and the successor's
+    /// pair, in the same box, so no memory is needed. If the key is not in the tree, the tree stays as it is.
     pub fn remove(self, key: u64, slot: u32) -> Tree
         requires lawful { IsLawful (shape self) }
         ensures step { shape result ≡ tree_remove slot key (shape self) }
@@ -49,7 +49,7 @@ impl Tree {
     }
 }
 
-// What stands in the place of a removed node.
+// What takes the place of a removed node.
 fn without_top(mut node: Box<TreeNode>, slot: u32) -> Tree
     ensures { shape result ≡ joined slot (shape node.value.left) (shape node.value.right) }
 {

@@ -1,3 +1,4 @@
+// The search for the first key from a key on.
 ghost use Rattle.std.specs.Prelude.{◌≡◌};
 ghost use Rattle.core_trees.specs.NamedTree.{contents, IsLawful};
 ghost use Rattle.core_trees.specs.Search.{search_from};

@@ -11,7 +11,7 @@ pub enum Tree {
 #[derive(Debug, PartialEq, Eq, Drop)]
 #[cycle(tree)]
 pub struct TreeNode {
-    /// The slot that the node stands in.
+    /// The node's slot.
     pub slot: u32,
     pub key: u64,
     pub val: u64,
@@ -19,7 +19,7 @@ pub struct TreeNode {
     pub right: Tree,
 }
 
-/// Memory was refused. The tree is handed back as it was.
+/// Memory was refused. The tree is returned unchanged.
 #[derive(Debug, Drop)]
 pub struct TreeError {
     pub tree: Tree,

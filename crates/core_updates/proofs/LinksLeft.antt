@@ -1,4 +1,4 @@
--- What an update leaves to be done at plain links, told by the links of the tree.
+-- What an update leaves to be done at plain links, by the links of the tree.
 use Rattle.std.proofs.Common.{◌≡◌, ℕ, ◌+◌, ◌^◌, ◌<◌, inl, inr, cond, List, [], ◌∷◌, map, filter, Bool, true, false, eqb, refl, ap, sym, ◌∙◌, subst, arith, Option, Some, None}
 use Rattle.std.specs.List.{list_all}
 use Rattle.std.proofs.lemmas.Bool.{and_from}

@@ -229,7 +229,7 @@ module _ (z : Layout) (m : Memory) (vs : List View) (g : Meaning) (rule : Rule z
     abbrev far_last : Option Unlinking
     far_last = Some (record { successor = n.node; parent = n.parent; side = n.side; replaced = f.node })
 
-    -- what is left is told by whether the next node is the right child
+    -- what is left depends on whether the next node is the right child
     by_parent : (b : Bool) → eqb n.parent f.node ≡ b
         → IsLeft m v Remove (m (Node Key f.node)) h.slot g.tree (set_to f.parent f.side h.slot ∷ cond b [] (set_to n.parent n.side n.right ∷ [])) (cond b None far_last)
         → IsLeft m v Remove (m (Node Key f.node)) h.slot g.tree sets last

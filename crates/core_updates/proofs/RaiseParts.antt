@@ -167,7 +167,8 @@ module _ (z : Layout) (m : Memory) (vs : List View) (g : Meaning) (rule : Rule z
       child_new m vs more side node (subst (λ x. 0 < x) (sym ready.head) ready.some) (ap (λ x. has x more) ready.head ∙ count-has entry more listed)
       ∙ ap (λ x. m (Entry Child x)) ready.head ∙ ready.leads
 
-  -- an entry that gets a number is a pending one, or a free one of the new node; those are the heads of no link of the tree
+  -- an entry that gets a number is a pending one, or a free one of the new node; those are the heads of no link of the
+  -- tree
   pub changed_by : (pending fresh : List ℕ) (changed : ℕ → Side → Type 0) → ((e : ℕ) → 0 < count e fresh → 0 < count e v.free.entries)
       → ((x : ℕ) → InTree z m vs g rule x → (w : Side) → 0 < count (m (Node (Head w) x)) pending → changed x w)
       → (x : ℕ) → InTree z m vs g rule x → (w : Side) → 0 < count (m (Node (Head w) x)) (pending ++ fresh) → changed x w

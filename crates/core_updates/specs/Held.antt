@@ -1,6 +1,6 @@
--- What a view shows of an update that is ready: what it has found under its locks, the null links at which its search has
--- ended, what the seat has put into its own slots, and the entries that it has prepared. Nothing of the words and of the other
--- views is told.
+-- What a view shows of an update that is ready: what it has found under its locks, the null links at which its search
+-- has ended, what the seat has put into its own slots, and the entries that it has prepared. Nothing is said of the
+-- words and of the other views.
 use Rattle.std.specs.Prelude.{◌≡◌, ℕ, ◌<◌, ◌^◌, ◌⊎◌, List, [], ◌∷◌, ◌==◌, cond, true, false, Option, Some, None}
 use Rattle.std.specs.List.{slice_get}
 use Rattle.index_words.specs.declared.layout.Layout.{Layout}
@@ -39,8 +39,8 @@ pub record HoldsHead (v : View) (node : ℕ) (side : Side) (entry : ℕ) : Type 
   pub head : (side_of side held).head ≡ Some loaded
   pub entry_is : loaded.entry ≡ entry
 
--- Under the lock of the node its mark was found 0, and the plain link was found to lead to this child, 0 for none. The root has
--- its right link alone.
+-- Under the lock of the node its mark was found 0, and the plain link was found to lead to this child, 0 for none. The
+-- root has its right link alone.
 pub record HoldsLink (v : View) (node : ℕ) (side : Side) (child : ℕ) : Type 0 where
   pub root : node ≡ 0 → side ≡ Right
   pub held : HeldNode
@@ -48,7 +48,8 @@ pub record HoldsLink (v : View) (node : ℕ) (side : Side) (child : ℕ) : Type 
   pub unmarked : held.mark ≡ Some 0
   pub leads : (side_of side held).link ≡ Some child
 
--- A search has found the link null, with this tag; the key is between those of the two turns that were the last ones then.
+-- A search has found the link null, with this tag; the key is between those of the two turns that were the last ones
+-- then.
 pub record RemembersGap (v : View) (node : ℕ) (side : Side) (tag key : ℕ) : Type 0 where
   pub place : ℕ
   pub link : Link
@@ -125,8 +126,8 @@ pub record HoldsKey (v : View) (key : ℕ) : Type 0 where
   pub right : ℕ
   pub right_link : HoldsLink v node Right right
 
--- the successor, with its link, its null left link and its right child; each key between is between the turns with which the
--- search has found that left link
+-- the successor, with its link, its null left link and its right child; each key between is between the turns with
+-- which the search has found that left link
 pub record HoldsSuccessor (v : View) (key : ℕ) : Type 0 where
   pub parent : ℕ
   pub side : Side
@@ -228,8 +229,8 @@ pub record CanRaise (v : View) (client : ℕ) : Type 0 where
 abbrev pub raise_of : Layout → ℕ → Update → Event
 raise_of z seat u = record { seat = seat; kind = Raise; word = address z Stamp; value = 0; update = Some u }
 
--- in every table of this layout that meets the rule, a seat with this view may raise the update, which then brings in and takes
--- out these nodes, and leaves these plain links to be set, and this successor to be unlinked, or none
+-- in every table of this layout that meets the rule, a seat with this view may raise the update, which then brings in
+-- and takes out these nodes, and leaves these plain links to be set, and this successor to be unlinked, or none
 pub record MayRaise (z : Layout) (v : View) (u : Update) (added : Option ℕ) (out : List ℕ) (sets : List SetLink) (unlinking : Option Unlinking) : Type 0 where
   pub may : (words : List ℕ) (vs : List View) (seat : ℕ) → InRule z words vs → slice_get vs seat ≡ Some v
       → allowed (record { layout = z; words = words; views = vs }) (raise_of z seat u) ≡ true

@@ -1,5 +1,5 @@
--- The events of a plan before and behind its raise: what it changes is locked, each of its events is allowed whatever others do,
--- and where a look fails the count rises that the answer needs.
+-- The events of a plan before and after its raise: what it changes is locked, each of its events is allowed whatever
+-- others do, and where a look fails the count rises that the answer needs.
 use Rattle.std.specs.Prelude.{◌≡◌, ℕ, ◌+◌, ◌^◌, ◌<◌, ◌⊎◌, [], true, false, Some, None, IfSome}
 use Rattle.std.specs.List.{slice_get}
 use Rattle.index_words.specs.declared.layout.Layout.{Layout}
@@ -80,8 +80,8 @@ pub record HoldsNumbered (v : View) (at : Link) (entry : ℕ) : Type 0 where
   pub holds : HoldsEntry v at entry
   pub numbered : (entry ≡ 0) ⊎ (is_written holds.head.loaded.stamp ≡ true)
 
--- an entry may be put in front before the raise: the newest entry of the bundle was found, with its number, and the entry is a free one that
--- is filled with that one behind it
+-- an entry may be put in front before the raise: the newest entry of the bundle was found, with its number, and the
+-- entry is a free one that is filled with that one after it
 pub record IsDue (v : View) (f : Front) (behind : ℕ) : Type 0 where
   pub unraised : v.update.raised ≡ None
   pub found : HoldsNumbered v f.at behind
@@ -97,7 +97,7 @@ abbrev pub KnowsMarked : View → Plan → Type 0
 KnowsMarked v plan =
     Every (λ (h : HeldNode). 0 < count h.node (out_of plan) → (h.mark ≡ Some 1) ⊎ (is_successor h.node v.update.unlinking ≡ true)) v.held.nodes
 
--- the events of the plan that the seat may make: its locks and looks, its fills, what is due, and behind the raise the
+-- the events of the plan that the seat may make: its locks and looks, its fills, what is due, and after the raise the
 -- numbers, the marks, and what gives back the locks and leaves the section, with two locks kept where it waits
 pub record AllowsPlan (z : Layout) (v : View) (seat n : ℕ) (plan : Plan) (slots : PlanSlots) : Type 0 where
   pub lock : (k : ℕ) → IsSearched v k → ¬ IsLocked v k → May z v (event_at z seat TryLock (Node Lock k) (n + 1))
@@ -142,9 +142,9 @@ pub record KnowsTag (v : View) (k : ℕ) (side : Side) : Type 0 where
   pub found : ℕ
   pub known : (side_of side held).tag ≡ Some found
 
--- A count has risen where a search or a try fails: `busy` where a lock is held; `moves` where a node that was searched, or is locked
--- and none of the seat's retired ones, is marked, or where a plain link, or its tag, is another one than the remembered one, loaded
--- for the first time under the lock.
+-- A count has risen where a search or a try fails: `busy` where a lock is held; `moves` where a node that was searched,
+-- or is locked and none of the seat's retired ones, is marked, or where a plain link, or its tag, is another one than
+-- the remembered one, loaded for the first time under the lock.
 pub record CountsFailures (t : Table) (e : Event) (v w : View) : Type 0 where
   pub busy : MeetsLock t e → w.counts.busy ≡ risen v.counts.busy
   pub mark : (k : ℕ) → IsSearched v k ⊎ (IsLocked v k × (count k v.retired.nodes ≡ 0)) → e.kind ≡ LoadMark → word_at t.layout e.word ≡ Some (Node Mark k)

@@ -1,5 +1,5 @@
--- When a view is ready for a plan: it has found under its locks what the plan asks for, has filled the new node and the entries,
--- and has put the plan's entries in front of bundles, and no others. One form for the four cases of an update.
+-- When a view is ready for a plan: it has found under its locks what the plan asks for, has filled the new node and the
+-- entries, and has put the plan's entries in front of bundles, and no others. One form for the four cases of an update.
 use Rattle.std.specs.Prelude.{◌≡◌, ℕ, ◌<◌, ◌^◌, IfSome}
 use Rattle.index_words.specs.declared.layout.Layout.{Layout}
 use Rattle.index_words.specs.declared.view.View.{View}

@@ -1,5 +1,5 @@
--- What a plan says, as lists in the order in which the update does it: which nodes are locked, what is looked at under the
--- locks, which words are filled, which entries are put in front of bundles, and which nodes go out.
+-- What a plan says, as lists in the order in which the update does it: which nodes are locked, what is looked at under
+-- the locks, which words are filled, which entries are put in front of bundles, and which nodes go out.
 use Rattle.std.specs.Prelude.{◌≡◌, ℕ, ◌<◌, List, [], ◌∷◌, ◌++◌, ◌==◌, map, Option, Some, None, if◌then◌else◌}
 use Rattle.index_words.specs.declared.side.Side.{Side}
 use Rattle.index_words.specs.declared.side.Side.TheVariants.{Left, Right}
@@ -52,8 +52,9 @@ locks_of (Replace p) = p.at.node ∷ p.node ∷ []
 locks_of (Lift p) = p.at.node ∷ p.node ∷ []
 locks_of (Join p) = p.at.node ∷ p.node ∷ between p ++ p.next.node ∷ []
 
--- What an update finds under its locks, and needs for its raise: that a link leads to a child, 0 for none; the key, or the value,
--- of a node; and that a search has ended at a null link, with the key between its turns, or with each key between these two.
+-- What an update finds under its locks, and needs for its raise: that a link leads to a child, 0 for none; the key, or
+-- the value, of a node; and that a search has ended at a null link, with the key between its turns, or with each key
+-- between these two.
 pub data Look : Type 0 where
   LinkLook : Link → ℕ → Look
   KeyLook : ℕ → ℕ → Look
@@ -81,8 +82,8 @@ looks_of (Join p) =
     ∷ KeyLook p.next.node p.next.pair.key ∷ ValLook p.next.node p.next.pair.val
     ∷ BetweenLook (link_of p.next.node Left) p.key p.next.pair.key ∷ next_look p
 
--- A plan makes sense: the node that it replaces or removes is one, and hangs at a link. A removal with two children has a
--- successor with a greater key, which is the right child where it hangs at the removed node itself.
+-- A plan makes sense: the node that it replaces or removes is one, and hangs at a link. A removal with two children has
+-- a successor with a greater key, which is the right child where it hangs at the removed node itself.
 pub record HasNode (at : Link) (node : ℕ) : Type 0 where
   pub some : 0 < node
   pub root : at.node ≡ 0 → at.side ≡ Right
@@ -158,15 +159,15 @@ or_none (Some f) = f ∷ []
 abbrev pub fronts_of : Plan → PlanSlots → List Front
 fronts_of plan s = front_of plan s ∷ or_none (next_front_of plan s)
 
--- the plain links that are set behind the raise: those in front of whose bundles entries are put, in the same order, to the
--- same children
+-- the plain links that are set after the raise: those in front of whose bundles entries are put, in the same order, to
+-- the same children
 abbrev pub set_by : Front → SetLink
 set_by f = record { at = f.at; child = f.child }
 
 abbrev pub sets_of : Plan → PlanSlots → List SetLink
 sets_of plan slots = map set_by (fronts_of plan slots)
 
--- the successor that is unlinked behind the raise, where its link is not one of the removed node
+-- the successor that is unlinked after the raise, where its link is not one of the removed node
 abbrev pub far_next : JoinPlan → Option Unlinking
 far_next p =
     if p.next.at.node == p.node then None
@@ -176,7 +177,7 @@ abbrev pub unlinks_of : Plan → Option Unlinking
 unlinks_of (Join p) = far_next p
 unlinks_of _ = None
 
--- the nodes that go out with the raise, and are marked behind it
+-- the nodes that go out with the raise, and are marked after it
 abbrev pub out_of : Plan → List ℕ
 out_of (Grow p) = []
 out_of (Replace p) = p.node ∷ []
@@ -194,7 +195,7 @@ child_of (Some fresh) = fresh.child
 abbrev pub fill : Word → ℕ → Filled
 fill w x = record { word = w; value = x }
 
--- the words that are filled: of a new node, and of an entry that leads to a child with another one behind it
+-- the words that are filled: of a new node, and of an entry that leads to a child with another one after it
 abbrev pub node_fills : NewNode → List Filled
 node_fills n =
     fill (Node Mark n.slot) 0 ∷ fill (Node KeyField n.slot) n.pair.key ∷ fill (Node ValField n.slot) n.pair.val

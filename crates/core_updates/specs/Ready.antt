@@ -79,8 +79,8 @@ pub record FindsKey (z : Layout) (m : Memory) (vs : List View) (v : View) (key :
   pub right : ℕ
   pub right_is : child_now m vs [] Right node ≡ right
 
--- a put of an absent key: the one pending entry leads its gap's link, whose node is locked, to a new node without children; a search
--- of the seat has found the plain link null, with the tag that it has
+-- a put of an absent key: the one pending entry leads its gap's link, whose node is locked, to a new node without
+-- children; a search of the seat has found the plain link null, with the tag that it has
 pub record IsReadyToGrow (z : Layout) (m : Memory) (vs : List View) (v : View) (key val : ℕ) : Type 0 where
   pub node : ℕ
   pub side : Side
@@ -115,8 +115,8 @@ pub record IsReadyToLift (z : Layout) (m : Memory) (vs : List View) (v : View) (
   pub pending : v.update.pending ≡ entry ∷ []
   pub prepared : IsPrepared m found.parent found.side entry child
 
--- the next node hangs at this link, and both nodes are locked; its key is greater, and each key between is in the gap of its left
--- link; its right child is known
+-- the next node hangs at this link, and both nodes are locked; its key is greater, and each key between is in the gap
+-- of its left link; its right child is known
 pub record FindsSuccessor (z : Layout) (m : Memory) (vs : List View) (v : View) (key : ℕ) : Type 0 where
   pub parent : ℕ
   pub side : Side
@@ -130,16 +130,16 @@ pub record FindsSuccessor (z : Layout) (m : Memory) (vs : List View) (v : View) 
   pub right : ℕ
   pub right_is : child_now m vs [] Right node ≡ right
 
--- where the next node is the removed one's right child: one entry is pending, and the new node has the next node's right
--- child
+-- where the next node is the removed one's right child: one entry is pending, and the new node has the next node's
+-- right child
 pub record IsNear (v : View) (node parent : ℕ) (side : Side) (next_right entry new_right : ℕ) : Type 0 where
   pub parent_is : parent ≡ node
   pub side_is : side ≡ Right
   pub pending : v.update.pending ≡ entry ∷ []
   pub child : new_right ≡ next_right
 
--- where it is deeper: a second entry leads the link to it to its right child, and the new node has the removed one's right
--- child
+-- where it is deeper: a second entry leads the link to it to its right child, and the new node has the removed one's
+-- right child
 pub record IsDeep (m : Memory) (v : View) (node right parent : ℕ) (side : Side) (next_right entry new_right : ℕ) : Type 0 where
   pub apart : ¬ (parent ≡ node)
   pub second : ℕ
@@ -178,8 +178,8 @@ join_last z m vs v key h =
 abbrev pub update_of : ℕ → ℕ → ℕ → Change → Update
 update_of client line key change = record { client = client; line = line; key = key; change = change }
 
--- the pending entries spell the tree after the update: the raise's need on trees is met. It brings in this node, or none, and
--- takes out these, and leaves these plain links to be set, and this successor to be unlinked, or none
+-- the pending entries spell the tree after the update: the raise's need on trees is met. It brings in this node, or
+-- none, and takes out these, and leaves these plain links to be set, and this successor to be unlinked, or none
 pub record MayStep (z : Layout) (m : Memory) (vs : List View) (v : View) (u : Update) (added : Option ℕ) (out : List ℕ) (sets : List SetLink)
     (unlinking : Option Unlinking) : Type 0 where
   pub step : is_tree_step z m vs v u ≡ true

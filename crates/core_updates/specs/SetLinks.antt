@@ -1,4 +1,4 @@
--- The plain links that an update has to set behind its raise, and the tags that it has to raise then.
+-- The plain links that an update has to set after its raise, and the tags that it has to raise then.
 use Rattle.std.specs.Prelude.{◌≡◌, ℕ, List, [], ◌∷◌, ◌==◌, cond, map, Option}
 use Rattle.index_words.specs.declared.side.Side.{Side}
 use Rattle.index_words.specs.declared.view.update.OwedTag.{OwedTag}

@@ -1,3 +1,4 @@
+// Laws on updates before they take effect. These calls do nothing: their clauses are what is proved.
 ghost use Rattle.core_trees.specs.LinkSteps.{GrowByLinkLaw, ReplaceByLinkLaw, LiftByLinkLaw, JoinNearLaw, JoinDeepLaw};
 ghost use Rattle.core_updates.specs.Held.{GrowFromViewLaw, ReplaceFromViewLaw, LiftFromViewLaw, JoinFromViewLaw};
 ghost use Rattle.core_updates.specs.PlanEvents.{LocksLaw, EventsLaw, FailuresLaw};
@@ -50,7 +51,7 @@ pub fn ready_plans_may_raise()
 }
 
 /// A plan can be carried out. It has locked what it looks at, where it puts entries in front, and what it takes out;
-/// and each of its events before and behind the raise is allowed in every table that meets the rule and has this view
+/// and each of its events before and after the raise is allowed in every table that meets the rule and has this view
 /// at the seat. Where a search or a try fails, the count has risen that the answer needs: by a lock that is held, a
 /// mark, or another plain link or tag than the remembered one.
 pub fn plans_are_carried_out()

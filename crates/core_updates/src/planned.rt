@@ -128,7 +128,7 @@ impl Plan {
         entries
     }
 
-    /// The nodes that go out with the raise, and are marked behind it, in their order.
+    /// The nodes that go out with the raise, and are marked after it, in their order.
     pub fn out(&self) -> ArrayVec<u32, 2>
         ensures { result.items ≡ out_of self.now }
     {

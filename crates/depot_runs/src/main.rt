@@ -1,13 +1,13 @@
 // Threads at a depot by itself. Each draws tags, gives a parcel with each tag that it draws, takes two after each of
-// the first 64 of 128 of them, and one wherever the depot is full, until so many parcels were given in all. Then the
+// the first 64 of 128 of them, and one whenever the depot is full, until so many parcels were given in all. Then the
 // depot is closed.
 //
 //     depot_runs SEATS ROOM PARCELS
 //             prints a line for each seat, `S SEAT GIVEN TAKEN EMPTIES FULLS`, a line for each tag that it gave,
 //             `G SEAT TAG`, and for each that it took, `T SEAT TAG`, and one for each tag that was left, `L TAG`:
-//             `tests/depot_runs.py` checks them
+//             `tests/machine/depot_runs.py` checks them
 //
-// Without words a depot of one parcel is tried from one seat, and then a small run is made: how many parcels were
+// Without arguments a depot of one parcel is tried from one seat, and then a small run is made: how many parcels were
 // given, and how many were taken or left, is printed.
 #![tactic(auto)]
 
@@ -46,7 +46,7 @@ fn main(rt: HostRuntime) -> io::Result<()> {
     print_run(&rt, &rt, numbers, true)
 }
 
-/// Makes a run, and prints what it came to.
+/// Makes a run, and prints what it found.
 fn print_run<R: Threads + Wait + Sync>(
     rt: &HostRuntime,
     threads: &R,

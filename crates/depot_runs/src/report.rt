@@ -1,4 +1,4 @@
-// What is printed of a run, a line each.
+// What is printed of a run, one line each.
 use crate::token::Token;
 use crate::work::Log;
 use std::io;

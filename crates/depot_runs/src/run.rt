@@ -12,7 +12,7 @@ use std::sync::Wait;
 use std::sync::atomic::AtomicU32;
 use std::thread::{Threads, map_vec};
 
-/// What a run came to: what was done from each seat, and what was left.
+/// What a run found: what was done from each seat, and what was left.
 #[derive(Drop)]
 pub(crate) struct Ran {
     pub(crate) worked: Vec<Log>,

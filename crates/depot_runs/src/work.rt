@@ -17,7 +17,7 @@ pub(crate) struct Log {
     pub(crate) fulls: u64,
 }
 
-/// Takes a parcel, where there is one.
+/// Takes a parcel, if there is one.
 fn take<R: Wait>(
     rt: &R,
     depot: &Depot<Token>,

@@ -1,4 +1,4 @@
--- What is so of two parts of a slice is so of the whole.
+-- What holds of two parts of a slice holds of the whole.
 use Rattle.std.proofs.Common.{◌≡◌, ℕ, ◌+◌, ◌-◌, List, ◌++◌, length, get_or, set, refl, sym, subst, ap, ◌∙◌, arith}
 use mathlib.Core.Logic.{⊎_elim}
 use Rattle.std.proofs.lemmas.Bool.{cases_lt}
@@ -25,7 +25,7 @@ module _ {T : Type 0} where
       subst (P (base + k)) (ap (λ l. get_or l k d) is ∙ get_or_append_left xs ys d k below)
       (accepts k d (omega (arith, ap length is, length-append xs ys)))
 
-  -- of what is behind it
+  -- of what comes after it
   pub accepts_back : (P : ℕ → T → Type 0) (base up : ℕ) (all xs ys : List T) → all ≡ xs ++ ys → up ≡ base + length xs → AcceptsFrom P base all → AcceptsFrom P up ys
   accepts_back P base up all xs ys is from accepts k d below =
       let at : base + (length xs + k) ≡ up + k = omega arith in

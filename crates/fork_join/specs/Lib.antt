@@ -1,2 +1,3 @@
+-- What calls on several threads give and change.
 pub mod Jobs
 pub mod Places

@@ -1,8 +1,8 @@
 // How work is split in two.
 ghost use Rattle.std.specs.Prelude.{◌<◌};
 
-// So many calls at most are given out one by one. More are given out by halves, so that no thread has to start very
-// many others.
+// At most this many calls are given out one by one. More are first given out by halves, so that no thread has to
+// start very many others.
 const ONE_BY_ONE: usize = 8;
 
 /// How many of so many calls a new thread is given.

@@ -34,7 +34,7 @@ pub last_key : (index : Home) (keys : List Pass) (last : Pass) → Every (IsKeyO
 last_key index [] last all = all.0
 last_key index (k ∷ keys) last all = last_key index keys last all.1
 
--- is taken up, and laid down again
+-- all keys are of the index again after the last one was taken up and laid down
 every_other : (index : Home) (keys : List Pass) (last key : Pass) → Every (IsKeyOf index) (keys ++ last ∷ []) → IsKeyOf index key → Every (IsKeyOf index) (keys ++ key ∷ [])
 every_other index [] last key all of = (of, tt)
 every_other index (k ∷ keys) last key all of = (all.0, every_other index keys last key all.1 of)

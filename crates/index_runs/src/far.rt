@@ -1,4 +1,4 @@
-// Passes that remove keys whose successors hang further down, while readers are held inside snapshots. Each removal
+// Passes that remove keys whose successors are further down, while readers are held inside snapshots. Each removal
 // takes effect, and returns once the snapshots are closed.
 ghost use Rattle.std.specs.Prelude.{◌≡◌};
 ghost use Rattle.index_runs.specs.Runs.{GoesOn, IsClosed};
@@ -19,8 +19,8 @@ const KEYS: [u64; 31] = [
     23, 25, 27, 29, 31,
 ];
 
-/// The keys that are removed, one by each pass. Each has two children, and its successor hangs further down: it is the
-/// left child of the node behind it. So no two removals wait with a lock of the same node, and none waits with a lock
+/// The keys that are removed, one by each pass. Each has two children, and its successor is further down: it is the
+/// left child of the node after it. So no two removals wait with a lock of the same node, and none waits with a lock
 /// that another one needs.
 const REMOVED: [u64; 7] = [16, 8, 24, 4, 12, 20, 28];
 
@@ -48,7 +48,7 @@ pub(crate) fn remove_or_look_on<R: Wait>(
     }
 }
 
-/// Opens a snapshot behind the puts, and reads it once it is told that all removals have taken effect.
+/// Opens a snapshot after the puts, and reads it once it is reported that all removals have taken effect.
 fn be_held<R: Wait>(
     rt: &R,
     alloc: Global,
@@ -94,7 +94,7 @@ fn remove_one<R: Wait>(
     Ok(events)
 }
 
-/// Puts all keys. Once all removals have taken effect it makes updates elsewhere, and tells how many removals have
+/// Puts all keys. Once all removals have taken effect it makes updates elsewhere, and reports how many removals have
 /// returned by then; then it lets the readers go.
 fn plant_and_look_on<R: Wait>(
     rt: &R,

@@ -1,4 +1,4 @@
-// The slots of a pass that are free, when it has laid its work down: it is taken up over the table for that.
+// The free slots of a pass after its work: the pass is taken up over the table for that.
 ghost use Rattle.table_steps.specs.Passes.{AtRest, IsPassOf, IsSamePass};
 ghost use Rattle.index_runs.specs.Sections.{IsBack};
 
@@ -10,7 +10,7 @@ use std::thread::yield_now;
 use table_steps::{SharedTable, TablePass};
 use tree_update::try_settle;
 
-/// Frees what waits, and tells which slots are free.
+/// Frees what waits, and reports which slots are free.
 pub(crate) fn tell_free(alloc: Global, table: &SharedTable, worked: Worked) -> Worked
     requires of { IsPassOf table.now worked.key }
     ensures back { IsBack table.now worked.key result.key }

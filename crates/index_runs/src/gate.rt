@@ -1,8 +1,8 @@
-// Gates between threads: numbers that rise, and for which others wait.
+// Gates between threads: numbers that rise, and that others wait for.
 use std::sync::atomic::{AtomicU64, Ordering};
 use std::thread::yield_now;
 
-/// So often a thread looks before it gives up: a run that hangs ends, with an output that its script refuses.
+/// A thread looks so often before it gives up, so that a run that hangs ends, with an output that its script refuses.
 const TURNS: u32 = 20_000_000;
 
 #[derive(Drop)]
@@ -27,7 +27,7 @@ impl Gate {
         self.raised.load(Ordering::SeqCst)
     }
 
-    /// Waits until the number was raised so often. Whether it was: there is a bound on turns.
+    /// Waits until the number was raised so often. Returns whether it was: there is a bound on turns.
     pub(crate) fn wait_for(&self, number: u64) -> bool {
         for _ in 0..TURNS {
             if self.raised() >= number {
@@ -39,7 +39,7 @@ impl Gate {
     }
 }
 
-/// What the passes of a run tell each other.
+/// What the passes of a run report to each other.
 #[derive(Drop)]
 pub(crate) struct Gates {
     /// Raised by a reader for each of its snapshots: by one that is held once it is open, by all others before that.
@@ -48,7 +48,7 @@ pub(crate) struct Gates {
     pub(crate) gone: Gate,
     /// Raised by each writer that has made its requests.
     pub(crate) done: Gate,
-    /// Raised by each reader that comes no more, and by each writer that has made its last updates.
+    /// Raised by each reader that makes no more visits, and by each writer that has made its last updates.
     pub(crate) ended: Gate,
     /// Raised by each pass whose removal has returned.
     pub(crate) back: Gate,

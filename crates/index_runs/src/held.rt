@@ -1,5 +1,5 @@
 // One pass makes updates while all others are held inside snapshots. A removal that had to wait for these would never
-// return, so the keys that it removes then are least ones, which have no child to their left.
+// return, so the keys that it removes then are the least ones, which have no child to their left.
 ghost use Rattle.index_runs.specs.Runs.{GoesOn, IsClosed};
 
 use crate::gate::Gates;
@@ -29,7 +29,7 @@ pub(crate) fn work_or_be_held<R: Wait>(
     }
 }
 
-/// Opens a snapshot behind the first requests, and reads it once the updates are made.
+/// Opens a snapshot after the first requests, and reads it once the updates are made.
 fn be_held<R: Wait>(
     rt: &R,
     alloc: Global,
@@ -54,8 +54,8 @@ fn be_held<R: Wait>(
     Ok(events)
 }
 
-/// Makes its requests, and then updates while the others are held, with a try to settle behind each of them, and one
-/// behind the end of the snapshots.
+/// Makes its requests, and then updates while the others are held, with a try to settle after each of them, and one
+/// after the end of the snapshots.
 fn work_meanwhile<R: Wait>(
     rt: &R,
     alloc: Global,
@@ -99,7 +99,7 @@ fn asked_meanwhile<R: Wait>(
     }
 }
 
-/// Makes updates, with a try to settle behind each of them.
+/// Makes updates, with a try to settle after each of them.
 fn update_and_settle<R: Wait>(
     rt: &R,
     pass: &mut IndexPass<'_>,

@@ -1,7 +1,7 @@
-// Passes at work on threads, over one shared index, or over its table. The first word says what they do, and behind it
-// stand names of numbers, each with its number. Each request is printed with its answer, or what each pass has found,
+// Passes at work on threads, over one shared index, or over its table. The first argument says what they do, and after
+// it come names of numbers, each with its number. Each request is printed with its answer, or what each pass has found,
 // then how many plain links were found to be those of the tree when all was done, and then the history:
-// `tests/index_runs.py` checks all of it.
+// `tests/machine/index_runs.py` checks all of it.
 //
 //     run       each pass makes requests: of a hundred `updates` are updates, `listings` listings of `page` pairs
 //     time      as `run`, and nothing is printed of it, for `bench/index`
@@ -9,15 +9,16 @@
 //     puts      as `held`, and all updates are puts
 //     tries     each request is a single try of a put
 //     visits    passes put and remove by turns, while `readers` come and go, and stay `turns` turns
-//     few       passes with few slots update beside such readers, empty the map, and tell their free slots at the end
-//     far       each pass but one removes a key whose successor hangs further down, while `readers` are held inside
+//     few       passes with few slots update next to such readers, empty the map, and report their free slots
+//               at the end
+//     far       each pass but one removes a key whose successor is further down, while `readers` are held inside
 //               snapshots; the other one has put the keys, sees the removals take effect, and makes `meanwhile` updates
 //     deep      one pass puts `keys` random keys, and then each makes `requests` removals
 //     sections  four passes over the table enter, leave, fill words and look at each other, `turns` turns between two
 //               meetings, and take in each other's notes
 //     waits     a pass over the table stops in the middle of an update for `turns` turns, while the others wait for it
 //
-// The names are those of the fields of `Run`. Without words a small run is made.
+// The names are those of the fields of `Run`. Without arguments a small run is made.
 #![tactic(auto)]
 
 mod deep;
@@ -59,7 +60,7 @@ fn main(rt: HostRuntime) -> io::Result<()> {
     }
 }
 
-/// The run of the words.
+/// The run of the arguments.
 fn run_of(mut words: env::Args) -> Option<Run> {
     let mut run = SMALL;
     let _program = words.next();

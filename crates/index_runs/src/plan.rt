@@ -18,9 +18,9 @@ pub(crate) enum Task {
     Tries,
     /// One puts and removes by turns, while readers come and go.
     Visits,
-    /// They have few slots, empty the map when all is done, and tell which of their slots are free.
+    /// They have few slots, empty the map when all is done, and report which of their slots are free.
     Few,
-    /// Some remove a key whose successor hangs further down, while readers are held inside snapshots.
+    /// Some remove a key whose successor is further down, while readers are held inside snapshots.
     Far,
     /// One puts all keys, and then all remove.
     Deep,
@@ -31,7 +31,7 @@ pub(crate) enum Task {
 }
 
 impl Task {
-    /// The task of a word.
+    /// The task with the name that the first argument gives.
     pub(crate) fn of(word: &str) -> Option<Task> {
         Some(match word {
             "run" => Task::Requests,
@@ -54,7 +54,7 @@ impl Task {
 #[derive(Clone, Copy, Drop)]
 pub(crate) struct Run {
     pub(crate) task: Task,
-    /// So many passes make requests, and the ones behind them only read.
+    /// So many passes make requests, and the ones after them only read.
     pub(crate) passes: u32,
     pub(crate) readers: u32,
     /// The slots of each pass that makes requests.
@@ -76,7 +76,7 @@ pub(crate) struct Run {
     pub(crate) seed: u32,
 }
 
-/// The run that is made without words. Of any other one it has the numbers that are not named.
+/// The run that is made without arguments. Any other run has its numbers where they are not named.
 pub(crate) const SMALL: Run = Run {
     task: Task::Timed,
     passes: 3,
@@ -102,7 +102,7 @@ pub(crate) enum Asked {
 }
 
 impl Run {
-    /// Sets the number of this name. Whether there is one.
+    /// Sets the number of this name. Returns whether there is one.
     pub(crate) fn set(&mut self, name: &str, number: u32) -> bool {
         match name {
             "passes" => self.passes = number,
@@ -143,7 +143,7 @@ impl Run {
         Ok(sizes)
     }
 
-    /// Of a hundred requests so many are updates: all of them where slots are few.
+    /// Of a hundred requests so many are updates: all of them if slots are few.
     pub(crate) fn updates_of_hundred(&self) -> u64 {
         match self.task {
             Task::Few => 100,
@@ -156,7 +156,7 @@ impl Run {
         Random::of(u64::from(self.seed).wrapping_add(u64::from(client)))
     }
 
-    /// The update of a line of a pass: a put and a removal by turns, or a put where all are, or else a random one.
+    /// The update of a line of a pass: a put and a removal by turns, or always a put, or a random one, as the task is.
     pub(crate) fn asked(&self, client: u32, line: u32, random: &mut Random) -> Asked {
         let key = self.key(client, random);
         match self.task {
@@ -169,7 +169,7 @@ impl Run {
         }
     }
 
-    /// A random key. Where slots are few it is one of the pass's own: else removals would soon bring all slots to one
+    /// A random key. If slots are few it is one of the pass's own: otherwise removals would soon bring all slots to one
     /// pass, and all others would be refused.
     fn key(&self, client: u32, random: &mut Random) -> u64 {
         match self.task {

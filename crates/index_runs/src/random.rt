@@ -13,7 +13,7 @@ impl Random {
         }
     }
 
-    /// The next number, below the bound where there is one below it.
+    /// The next number, below the bound; 0 if the bound is 0.
     pub(crate) fn below(&mut self, bound: u64) -> u64 {
         self.state ^= self.state << 13;
         self.state ^= self.state >> 7;

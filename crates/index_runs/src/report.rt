@@ -1,4 +1,4 @@
-// What is printed of a run, a line each.
+// What is printed of a run, one line each.
 use crate::plan::Asked;
 use crate::run::Ran;
 use crate::sections::Sectioned;
@@ -11,7 +11,7 @@ use shared_index::Settling;
 use std::fmt::Write;
 use std::io;
 
-/// What a run came to.
+/// What a run found.
 #[derive(Drop)]
 pub(crate) enum Outcome {
     Ran(Ran),
@@ -124,7 +124,7 @@ fn print_history(rt: &HostRuntime, history: &[Update]) -> io::Result<()> {
     Ok(())
 }
 
-/// The numbers of slots, each behind a space.
+/// The numbers of slots, each after a space.
 fn listed(rt: &HostRuntime, slots: &[u32]) -> Result<String, std::fmt::Error> {
     let mut text = String::new(rt.alloc());
     for slot in slots {

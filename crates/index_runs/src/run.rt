@@ -22,7 +22,7 @@ use std::sync::Wait;
 use std::thread::{Threads, map_vec};
 use table_steps::SharedTable;
 
-/// What a run came to: what each pass was answered, how many plain links were those of the tree at the end, and the
+/// What a run found: what each pass was answered, how many plain links were those of the tree at the end, and the
 /// history.
 #[derive(Drop)]
 pub(crate) struct Ran {
@@ -31,7 +31,7 @@ pub(crate) struct Ran {
     pub(crate) history: Vec<Update>,
 }
 
-/// Why a run did not come to its end.
+/// Why a run did not reach its end.
 #[derive(Clone, Copy, Debug)]
 pub(crate) enum Stopped {
     /// No index takes these sizes.

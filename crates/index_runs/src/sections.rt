@@ -33,14 +33,14 @@ pub(crate) struct Four {
     pub(crate) d: Seat,
 }
 
-/// What a run came to.
+/// What a run found.
 #[derive(Drop)]
 pub(crate) struct Sectioned {
     pub(crate) found: [Found; 4],
     pub(crate) history: Vec<Update>,
 }
 
-/// Two passes work at once, each hears on another thread what the other one has told, and both work on.
+/// Two passes work at once, each hears on another thread what the other one has reported, and both work on.
 fn exchange<R: Threads + Sync>(
     rt: &R,
     table: &SharedTable,

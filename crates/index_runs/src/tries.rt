@@ -28,7 +28,7 @@ impl Met {
     }
 }
 
-/// Tries as many puts as the run has requests. Answers those that were made, and what the others have met.
+/// Tries as many puts as the run has requests. Returns those that were made, and what the others have met.
 pub(crate) fn try_puts(
     alloc: Global,
     pass: &mut IndexPass<'_>,
@@ -50,7 +50,7 @@ pub(crate) fn try_puts(
                 done,
             })?,
             Ok(tried) => met.count(tried),
-            // No slot is free: those that were taken out may be.
+            // No slot is free: settling may free those that were taken out.
             Err(_) => {
                 pass.try_settle();
             }

@@ -1,5 +1,5 @@
 // A pass at work over the table itself: it enters and leaves sections, fills words of free slots, looks at the section
-// words of others, and tells and hears notes.
+// words of others, and reports and hears notes.
 ghost use Rattle.std.specs.Prelude.{◌≡◌};
 ghost use Rattle.table_steps.specs.Notes.{IsNoteOf};
 ghost use Rattle.table_steps.specs.Passes.{AtRest, IsPassOf, IsSamePass};
@@ -76,7 +76,7 @@ fn fill(pass: &mut TablePass<'_>, val: u64)
     }
 }
 
-/// Looks at another pass's section word, where slots wait to become free.
+/// Looks at another pass's section word, if slots wait to become free.
 fn look(pass: &mut TablePass<'_>, other: u32, found: &mut Found)
     requires rest { AtRest pass.old.view }
     ensures same { IsSamePass pass.old pass.new }
@@ -120,7 +120,7 @@ fn work_on(table: &SharedTable, work: &Work, meeting: u64, seat: Seat) -> Seat
     Seat { key, found }
 }
 
-/// Works, and then tells a note.
+/// Works, and then reports a note.
 pub(crate) fn work_and_tell(
     table: &SharedTable,
     work: &Work,

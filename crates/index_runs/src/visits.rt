@@ -9,8 +9,8 @@ use shared_index::IndexPass;
 use std::alloc::{AllocError, Global};
 use std::sync::Wait;
 
-/// So many visits a reader makes at most, and so often a pass tries to settle: a run that hangs ends, with an output
-/// that its script refuses.
+/// A reader makes at most so many visits, and a pass tries at most so often to settle, so that a run that hangs ends,
+/// with an output that its script refuses.
 pub(crate) const MOST: u32 = 2_000_000;
 
 /// What a pass does in such a run.
@@ -31,7 +31,7 @@ pub(crate) fn work_or_visit<R: Wait>(
     }
 }
 
-/// Makes all requests, and the last updates once no reader comes any more, one writer behind another.
+/// Makes all requests, and the last updates once no reader comes any more, one writer after another.
 fn write<R: Wait>(
     rt: &R,
     alloc: Global,
@@ -73,8 +73,8 @@ fn go_on<R: Wait>(
     Ok(())
 }
 
-/// Puts each key and removes it: then the map is empty. The last removal has found no entry in the one bundle that is
-/// left but that of the put before it, and those that the put has kept, which it cuts.
+/// Puts each key and removes it: then the map is empty. In the one bundle that is left the last removal has found only
+/// the entry of the put before it and those that the put has kept, which it cuts.
 fn empty<R: Wait>(
     rt: &R,
     pass: &mut IndexPass<'_>,

@@ -61,7 +61,7 @@ impl Meeting {
     }
 }
 
-/// Ends an update behind its raise. `number` is the one at which the pass reads.
+/// Ends an update after its raise. `number` is the one at which the pass reads.
 fn end_update(pass: &mut TablePass<'_>, number: u64, plan: &Plan, slots: &PlanSlots)
     requires raised { (at : ℕ) × HasFinalised pass.old.view pass.old.number plan.now slots.now at 0 }
     requires apart { AreApart slots.now }
@@ -78,8 +78,8 @@ fn end_update(pass: &mut TablePass<'_>, number: u64, plan: &Plan, slots: &PlanSl
     leave_section(pass);
 }
 
-/// Carries an aim out, and stays at its stage before the raise. Whether the locks were free and the looks found all as
-/// it was.
+/// Carries out an aim, and stays at its stage before the raise. Returns whether the locks were free and the looks found
+/// everything unchanged.
 fn carry_slowly(
     pass: &mut TablePass<'_>,
     meeting: &Meeting,
@@ -133,7 +133,7 @@ fn replace_slowly(pass: &mut TablePass<'_>, meeting: &Meeting) -> bool
     }
 }
 
-/// Looks for the key in a snapshot that was opened before the raise: its value.
+/// Looks for the key in a snapshot that was opened before the raise. Returns its value.
 fn look<R: Wait>(rt: &R, pass: &mut TablePass<'_>, meeting: &Meeting) -> Option<u64>
     requires rest { AtRest pass.old.view }
 {
@@ -148,7 +148,7 @@ fn look<R: Wait>(rt: &R, pass: &mut TablePass<'_>, meeting: &Meeting) -> Option<
     }
 }
 
-/// Puts the key: the place of the update.
+/// Puts the key. Returns the place of the update.
 fn put_behind<R: Wait>(rt: &R, pass: &mut TablePass<'_>, meeting: &Meeting) -> Option<u64>
     requires rest { AtRest pass.old.view }
 {

@@ -18,14 +18,14 @@ use std::sync::Wait;
 /// A request of a pass, with its answer.
 #[derive(Drop)]
 pub(crate) enum Event {
-    /// An update was answered. A put of a new key is not made where the key was there, and a removal where it was not.
+    /// An update was answered. A put of a new key is not made if the key was there, nor a removal if it was not.
     Answered {
         line: u32,
         asked: Asked,
         done: Done,
     },
     /// There was no slot for an update, or no call was left. Of the visits of readers so many had ended before it, and
-    /// so many had begun until it was refused: where these are as many, nobody read at any time of the call.
+    /// so many had begun until it was refused: if the two numbers are equal, nobody read at any time of the call.
     Refused {
         line: u32,
         gone: u64,
@@ -52,7 +52,7 @@ pub(crate) enum Event {
 }
 
 impl Event {
-    /// What an update was answered before which so many visits had ended.
+    /// The answer to an update before which so many visits had ended.
     pub(crate) fn of(
         line: u32,
         asked: Asked,
@@ -89,7 +89,7 @@ pub(crate) fn done_of(new: New) -> Done {
     }
 }
 
-/// Makes all requests of a run, and answers what they were answered, as far as that is kept.
+/// Makes all requests of a run. Returns their answers, as far as these are kept.
 pub(crate) fn work<R: Wait>(
     rt: &R,
     alloc: Global,
@@ -208,7 +208,7 @@ pub(crate) fn first_from<R: Wait>(rt: &R, pass: &mut IndexPass<'_>, key: u64) ->
     found
 }
 
-// Reads so many pairs of the open snapshot, as far as there are so many.
+// Reads so many pairs of the open snapshot, or all if there are fewer.
 pub(crate) fn read<R: Wait>(
     rt: &R,
     pass: &mut IndexPass<'_>,

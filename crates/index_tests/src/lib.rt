@@ -1,4 +1,5 @@
-//! Tests of the public calls of `shared_index`, which are proved once so and not a second time with their tests.
+//! Tests of the public calls of `shared_index`, in a crate of their own, so that it is not proved a second time with
+//! its tests.
 #![tactic(auto)]
 
 #[cfg(test)]

@@ -61,8 +61,8 @@ fn finds<P: KeyPass, R: Wait>(rt: &R, pass: &mut P, from: u64, pair: Pair) -> bo
     pass.next_from(rt, from) == Some(pair)
 }
 
-/// Whether the open snapshot lists the keys of `put_twenty` from 100 on, behind searches in their midst, and is searched
-/// from the least key on behind that.
+/// Whether the open snapshot lists the keys of `put_twenty` from 100 on, after searches in the middle of them, and is
+/// then searched from the least key on.
 fn is_searched_and_listed<P: KeyPass, R: Wait>(rt: &R, pass: &mut P) -> bool
     requires open { IsSome (P.view pass.old).opened }
     ensures same { P.view pass.new ≡ P.view pass.old }
@@ -73,7 +73,7 @@ fn is_searched_and_listed<P: KeyPass, R: Wait>(rt: &R, pass: &mut P) -> bool
         && finds(rt, pass, 0, Pair { key: 100, val: 0 })
 }
 
-/// Puts twenty keys from 100 on: the place of a snapshot behind them, and whether it lists them.
+/// Puts twenty keys from 100 on. Returns the place of a snapshot after them, and whether it lists them.
 fn put_and_listed<P: KeyPass, R: Wait>(rt: &R, pass: &mut P) -> (u64, bool)
     requires { (P.view pass.old).opened ≡ None }
 {
@@ -131,7 +131,7 @@ fn at_once<R: Threads + Wait + Sync>(
     )
 }
 
-/// How many updates the history has in the end.
+/// How many updates the history has at the end.
 fn updates_at_once<R: Threads + Wait + Sync>(rt: &R, alloc: Global) -> Option<usize> {
     let (index, first, second) = opened(alloc, &[size(20, 200, 20); 2])?;
     let (first, second) = at_once(rt, &index, first, second);

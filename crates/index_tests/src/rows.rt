@@ -56,7 +56,7 @@ fn gather<P: KeyPass, R: Wait>(rt: &R, pass: &mut P) -> bool
     true
 }
 
-/// What a look finds where this is the first pair.
+/// What a look finds if this is the first pair.
 fn look_of(pair: Option<Pair>) -> Look {
     match pair {
         Some(pair) => Look::Found(pair),
@@ -93,7 +93,7 @@ fn has_first<P: TestedPass, R: Wait>(rt: &R, pass: &mut P, key: u64, pair: Optio
     is_shown
 }
 
-/// Makes the row's call for the request line, and tells whether it has the row's answer.
+/// Makes the row's call for the request line. Returns whether it has the row's answer.
 fn has_answer<P: TestedPass, R: Wait>(rt: &R, pass: &mut P, line: u32, row: &Row) -> bool
     requires closed { (P.view pass.old).opened ≡ None }
     ensures closed { (P.view pass.new).opened ≡ None }

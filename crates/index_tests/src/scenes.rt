@@ -1,4 +1,5 @@
-// Scenes of an index of two passes: one of them makes the calls of rows, and the other one may have a snapshot open then.
+// Scenes of an index of two passes: one of them makes the calls of rows, and the other one may have a snapshot open
+// then.
 ghost use Rattle.std.specs.Prelude.{◌≡◌, ◌∷◌, [], None, IsSome};
 ghost use Rattle.shared_index.specs.Keys.{AreAllKeys};
 
@@ -16,9 +17,9 @@ use std::sync::Wait;
 pub(crate) struct Snapshot<'a> {
     /// Its place.
     pub(crate) at: u64,
-    /// Whether its pass hears what the other one has seen, before it is opened and behind the calls.
+    /// Whether its pass hears what the other one has seen, before it is opened and after the calls.
     pub(crate) hears: bool,
-    /// Its first pairs from keys on, behind the calls.
+    /// Its first pairs from keys on, after the calls.
     pub(crate) pairs: &'a [(u64, Option<Pair>)],
 }
 
@@ -30,7 +31,7 @@ pub(crate) struct Scene<'a> {
     /// The request line of the updates.
     pub(crate) line: u32,
     pub(crate) rows: &'a [Row],
-    /// What the other pass has open meanwhile.
+    /// The snapshot that the other pass has open meanwhile.
     pub(crate) beside: Option<Snapshot<'a>>,
 }
 
@@ -48,7 +49,7 @@ fn shows_all<P: TestedPass, R: Wait>(rt: &R, pass: &mut P, pairs: &[(u64, Option
     true
 }
 
-/// Whether the open snapshot has its pairs behind the rows, which have their answers.
+/// Whether the rows have their answers, and the open snapshot has its pairs after them.
 fn keeps_its_pairs<P: TestedPass, R: Wait>(
     rt: &R,
     acting: &mut P,
@@ -73,7 +74,7 @@ fn keeps_its_pairs<P: TestedPass, R: Wait>(
     shows_all(rt, other, snapshot.pairs) && is_right
 }
 
-/// Whether the scene goes as it is to, with this snapshot of the other pass.
+/// Whether the scene goes as it should, with this snapshot of the other pass.
 fn goes_beside<P: TestedPass, R: Wait>(
     rt: &R,
     acting: &mut P,
@@ -100,7 +101,7 @@ fn goes_beside<P: TestedPass, R: Wait>(
     at == snapshot.at && is_right
 }
 
-/// Whether the scene goes as it is to.
+/// Whether the scene goes as it should.
 fn goes<P: TestedPass, R: Wait>(rt: &R, acting: &mut P, other: &mut P, scene: &Scene<'_>) -> bool
     requires closed { (P.view acting.old).opened ≡ None }
     requires other_closed { (P.view other.old).opened ≡ None }
@@ -118,7 +119,7 @@ fn goes<P: TestedPass, R: Wait>(rt: &R, acting: &mut P, other: &mut P, scene: &S
     }
 }
 
-/// Whether the scene goes as it is to, by whichever pass its calls are.
+/// Whether the scene goes as it should, whichever pass makes its calls.
 fn goes_by_turn<P: TestedPass, R: Wait>(
     rt: &R,
     zero: &mut P,
@@ -142,7 +143,7 @@ fn goes_by_turn<P: TestedPass, R: Wait>(
     }
 }
 
-/// How many scenes, from the first one on, go as they are to.
+/// How many scenes, from the first one on, go as they should.
 fn right_scenes<P: TestedPass, R: Wait>(
     rt: &R,
     zero: &mut P,
@@ -167,7 +168,7 @@ fn right_scenes<P: TestedPass, R: Wait>(
     scenes.len()
 }
 
-/// Scenes of the passes of an index: how many go as they are to, and the keys back.
+/// Plays the scenes with the passes of an index. Returns how many go as they should, and the keys.
 fn played<R: Wait>(
     rt: &R,
     index: &SharedIndex,
@@ -184,8 +185,8 @@ fn played<R: Wait>(
     (count, zero.detach(), one.detach())
 }
 
-/// Plays the scenes in an index of passes of these sizes: how many of them go as they are to, from the first one on, and
-/// whether the index ends with this history. `None`: there was no memory.
+/// Plays the scenes in an index of passes of these sizes. Returns how many of them go as they should, from the first
+/// one on, and whether the index ends with this history. None when out of memory.
 pub(crate) fn told<R: Wait>(
     rt: &R,
     alloc: Global,

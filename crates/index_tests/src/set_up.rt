@@ -80,7 +80,7 @@ pub(crate) fn put<P: KeyPass, R: Wait>(
     }
 }
 
-/// A removal, which leaves no snapshot open. What it leaves is told by whether the key was there.
+/// A removal, which leaves no snapshot open. What is known after it depends on whether the key was there.
 pub(crate) fn remove<P: KeyPass, R: Wait>(
     rt: &R,
     pass: &mut P,

@@ -1,4 +1,4 @@
-// Tests of two passes in turn on one thread: their scenes and the history that these make, worked by hand.
+// Tests of two passes in turn on one thread: their scenes and the history that these make, handwritten.
 use crate::rows::Row;
 use crate::scenes::{Scene, Snapshot, told};
 use crate::set_up::size;
@@ -168,7 +168,7 @@ const TWO_CHILDREN: [Row; 10] = [
     Row::First(8, None),
 ];
 
-/// A key with two children goes out, whose successor is deep and has a right child; and a try is refused while the
+/// A key with two children is removed, whose successor is deep and has a right child; and a try is refused while the
 /// slots that the pass has taken out are not free again.
 #[test]
 fn a_pass_removes_a_key_with_two_children(rt: HostRuntime) -> Result<(), Fail> {
@@ -216,9 +216,9 @@ const ONE_SLOT: [Row; 3] = [
     Row::Remove(9, Err(PassError::NoSlot)),
 ];
 
-/// Another pass's snapshot holds what a removal has taken out. The successor of the first key that goes out is the right
-/// child itself, so that its removal waits for nobody; that of the second one hangs further down, and no snapshot is
-/// open then.
+/// Another pass's snapshot holds what a removal has taken out. The successor of the first key that is removed is the
+/// right child itself, so its removal waits for nobody; the successor of the second one is further down, and no
+/// snapshot is open then.
 #[test]
 fn a_snapshot_holds_the_slots_of_a_removal(rt: HostRuntime) -> Result<(), Fail> {
     let sizes = [size(8, 32, 16), size(1, 4, 8)];
@@ -269,8 +269,8 @@ const ONE_KEY_GATHERED: [Row; 4] = [
 
 const OLD_OF_ONE: [(u64, Option<Pair>); 1] = [(0, Some(Pair { key: 5, val: 50 }))];
 
-/// While another pass's snapshot is open each put of a key leaves one entry more in the bundle, until too few are owned
-/// for another. Once the snapshot has ended the pass gathers them, and is served again.
+/// While another pass's snapshot is open each put of a key leaves one entry more in the bundle, until the pass owns too
+/// few for another put. Once the snapshot has ended the pass gathers them, and its puts succeed again.
 #[test]
 fn a_pass_that_was_refused_gathers_and_is_served(rt: HostRuntime) -> Result<(), Fail> {
     let sizes = [size(8, 8, 16), size(1, 4, 8)];
@@ -315,8 +315,8 @@ const NEW_AGAIN: [Row; 5] = [
     Row::First(0, Some(Pair { key: 4, val: 44 })),
 ];
 
-/// A key keeps out what is put as new, whichever pass has put it, until it is removed. Slots and calls are looked at
-/// first, whether or not the key is there.
+/// A put of a new key is not made if the key is there, whichever pass has put it, until it is removed. Slots and calls
+/// are checked first, whether or not the key is there.
 #[test]
 fn a_key_that_is_there_keeps_a_new_one_out(rt: HostRuntime) -> Result<(), Fail> {
     let sizes = [size(2, 8, 8), size(2, 12, 2)];

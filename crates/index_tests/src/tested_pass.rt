@@ -26,7 +26,7 @@ pub(crate) trait TestedPass: KeyPass {
         ensures same { Self.view self.new ≡ Self.view self.old }
         ensures home { Self.home self.new ≡ Self.home self.old };
 
-    /// The other pass tells what it has seen, and this one hears it.
+    /// The other pass reports what it has seen, and this one hears it.
     fn hear_of(&mut self, other: &mut Self)
         requires { Self.home other.old ≡ Self.home self.old }
         ensures opened { (Self.view self.new).opened ≡ (Self.view self.old).opened }

@@ -21,7 +21,7 @@ enum Trade {
     Remove(u32, u64, Result<Done, PassError>),
 }
 
-/// Makes the update, and tells whether it has its answer.
+/// Makes the update. Returns whether it has its answer.
 fn has_answer<P: KeyPass, R: Wait>(rt: &R, pass: &mut P, trade: &Trade) -> bool
     requires closed { (P.view pass.old).opened ≡ None }
     ensures closed { (P.view pass.new).opened ≡ None }
@@ -33,7 +33,7 @@ fn has_answer<P: KeyPass, R: Wait>(rt: &R, pass: &mut P, trade: &Trade) -> bool
     }
 }
 
-/// Makes the update, with a top-up before and a hand-over behind it, and tells whether it has its answer.
+/// Makes the update, with a top-up before it and a hand-over after it. Returns whether it has its answer.
 fn is_traded<P: PoolPass, R: Wait>(
     rt: &R,
     pass: &mut P,
@@ -123,8 +123,8 @@ const OTHERS_SLOT: [Trade; 2] = [
     Trade::Put(4, 4, Err(PassError::NoSlot)),
 ];
 
-/// The puts of pass 0 before and behind a removal of pass 1: whether the updates have their answers, and how many parcels
-/// the depot has left.
+/// The puts of pass 0 before and after a removal of pass 1: whether the updates have their answers, and how many
+/// parcels the depot has left.
 fn traded<P: PoolPass, R: Wait>(
     rt: &R,
     alloc: Global,
@@ -158,7 +158,7 @@ fn a_slot_that_came_free_goes_to_a_put(rt: HostRuntime) -> Result<(), Fail> {
     Ok(())
 }
 
-/// Lends a node slot and gives it to the depot: whether the depot took it. The pass has a slot that came back.
+/// Lends a node slot and gives it to the depot. Returns whether the depot took it; if not, the pass has the slot back.
 fn given<P: PoolPass, R: Wait>(
     rt: &R,
     pass: &mut P,
@@ -185,8 +185,8 @@ fn given<P: PoolPass, R: Wait>(
     }
 }
 
-/// Gives two node slots to a depot that has room for one: whether it takes the first alone, and the pass owns the other
-/// one then.
+/// Gives two node slots to a depot that has room for one. Returns whether it takes only the first, and the pass then
+/// owns the other one.
 fn keeps_the_second<P: PoolPass, R: Wait>(rt: &R, alloc: Global, pass: &mut P) -> Option<bool>
     requires { (P.view pass.old).opened ≡ None }
 {

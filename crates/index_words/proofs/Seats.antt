@@ -1,4 +1,4 @@
--- Lists of views of which one changes: sums over them, and what holds of each and of each pair.
+-- Lists of views in which one changes: sums over them, and what holds of each and of each pair.
 use Rattle.std.proofs.Common.{◌≡◌, ℕ, ◌+◌, ◌<◌, ◌≤◌, List, [], ◌∷◌, ◌++◌, length, take, get_or, set, arith, ap, ◌∙◌, sym, subst, get_or-set_same, get_or-set_other, length-set, inl, inr}
 use Rattle.std.specs.List.{All, sum_by}
 use Rattle.std.proofs.lemmas.List.{get_or-take, length-take, get_or_default}
@@ -52,7 +52,7 @@ item_set xs i x y at = record {
   is = λ d. get_or-set_same xs i y d at.within;
 }
 
--- where one item changes and the others are framed, each item of the new list has the new property
+-- if one item changes and the others are framed, each item of the new list has the new property
 pub all_moved : {X : Type 0} (P Q : X → Type 0) (xs : List X) (i : ℕ) (x y : X) → IsItem xs i x → All P xs → Q y
     → ((w : X) → Beside xs i w → P w → Q w) → All Q (set xs i y)
 all_moved P Q xs i x y at all new others k d within =
@@ -64,7 +64,7 @@ all_moved P Q xs i x y at all new others k d within =
           subst Q (sym (get_or-set_other xs i k y d e.1)) (others (get_or xs k d) beside (all k d inside))
     ]
 
--- the same where all items are kept
+-- the same if all items are kept
 pub all_framed : {X : Type 0} (P Q : X → Type 0) (xs : List X) → All P xs → ((w : X) → P w → Q w) → All Q xs
 all_framed P Q xs all others k d within = others (get_or xs k d) (all k d within)
 
@@ -77,7 +77,7 @@ pairs_moved R S xs i x y at all here row column rest =
     (all_moved (R x) (S y) xs i x y at (at_item (λ v. All (R v) xs) xs i x at all) here (λ w beside. row w beside))
     (λ v beside of. all_moved (R v) (S v) xs i x y at of (column v beside (at_item (R v) xs i x at of)) (λ w other. rest v w beside other))
 
--- where one item is split in two, whose terms are together its term
+-- if one item is split in two, the terms of the two together are its term
 pub sum_split : {X : Type 0} (f : X → ℕ) (xs : List X) (i : ℕ) (x y z : X) → IsItem xs i x → f y + f z ≡ f x → sum_by f (set xs i y ++ z ∷ []) ≡ sum_by f xs
 sum_split f xs i x y z at same = omega (arith, sum_moved f xs i x y at, sum_by_push f (set xs i y) z)
 

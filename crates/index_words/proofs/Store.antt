@@ -1,4 +1,4 @@
--- A store at the number of a word is that word anew; the number of a word is its own.
+-- A store at the number of a word changes exactly that word; no two words have the same number.
 use Rattle.std.proofs.Common.{Bool, List, None, Option, Some, ap, arith, cond, eqb, eqb-true, false, get_or-set_other, get_or-set_same, leb, length, ltb, refl, set, subst, sym, true, ℕ, ◌%◌, ◌&&◌, ◌*◌, ◌+◌, ◌-◌, ◌/◌, ◌<◌, ◌∙◌, ◌≡◌, ◌≤◌}
 use Rattle.std.proofs.lemmas.Bool.{false≢true}
 use Rattle.std.proofs.lemmas.Bool.Decides.{nat_tests}
@@ -14,7 +14,7 @@ use Rattle.index_words.specs.declared.word.Word.{Word}
 use Rattle.index_words.specs.declared.word.Word.TheVariants.{Stamp, Section, Announced, Node, Entry}
 use Rattle.index_words.specs.Words.{address, word_count, is_there, memory, written, StoreLaw, same_word, same_field, same_part, same_side, field_number, part_number, field_at, part_at, word_at, nodes_begin, entries_begin}
 
--- the numbers of fields are below ten, and tell them apart
+-- the numbers of fields are below ten, and differ
 pub field_number-lt : (f : Field) → field_number f < 10
 field_number-lt Key = omega arith
 field_number-lt Val = omega arith
@@ -31,7 +31,7 @@ pub part_number-lt : (p : Part) → part_number p < 3
 part_number-lt Child = omega arith
 part_number-lt _ = omega arith
 
--- a word that is there has a number in range
+-- a word that the table has has a number in range
 pub address-lt : (z : Layout) (w : Word) → is_there z w ≡ true → address z w < word_count z
 address-lt z Stamp t = omega arith
 address-lt z (Section i) t = let h : i < z.passes = grind (arith, nat_tests) in omega arith
@@ -124,7 +124,7 @@ field_number-apart f g e = sym (field_at-number f) ∙ ap field_at e ∙ field_a
 part_number-apart : (p q : Part) → part_number p ≡ part_number q → p ≡ q
 part_number-apart p q e = sym (part_at-number p) ∙ ap part_at e ∙ part_at-number q
 
--- where a number below ten or three is added, the two parts are told apart
+-- if a number below ten or three is added, the two parts are determined
 tens : (a b f g : ℕ) → f < 10 → g < 10 → 10 * a + f ≡ 10 * b + g → (a ≡ b) × (f ≡ g)
 tens a b f g hf hg e = (omega arith, omega arith)
 
@@ -145,7 +145,7 @@ is_there-says z (Node f k) t = (grind (arith, nat_tests), field_number-lt f)
 is_there-says z (Entry p e) t = let h : (0 < e) × (e ≤ z.entries) = grind (arith, nat_tests) in (h.0, h.1, part_number-lt p)
 is_there-says z _ t = grind (arith, nat_tests)
 
--- no two words that are there have one number
+-- no two words that the table has share a number
 apart : (z : Layout) (v w : Word) → IsThere z v → IsThere z w → address z v ≡ address z w → v ≡ w
 unfolding IsThere
 apart z Stamp Stamp a b e = refl
@@ -190,7 +190,7 @@ where_stored z words w v x false same long here =
 pub store : StoreLaw
 store z words w x long here = fun_ext (λ v. where_stored z words w v x (same_word v w) refl long here)
 
--- the word of a number is there, and has that number
+-- the word of a number is one of the table, and has that number
 pub IsWordAt : Layout → ℕ → Option Word → Type 0
 IsWordAt z n None = word_count z ≤ n
 IsWordAt z n (Some w) = (is_there z w ≡ true) × (address z w ≡ n)
@@ -246,7 +246,7 @@ stored_at z words n w x long found =
     let there = word_there z n w found in
     subst (λ k. memory z (set words k x) ≡ written (memory z words) w x) there.1 (store z words w x long there.0)
 
--- a word that is there is found at its number
+-- a word of the table is found at its number
 word_found : (z : Layout) (w : Word) (o : Option Word) → is_there z w ≡ true → IsWordAt z (address z w) o → o ≡ Some w
 unfolding IsWordAt
 word_found z w None there past = absurd (omega (arith, past, address-lt z w there))

@@ -1,4 +1,4 @@
--- The words of a table by name, where each of them stands, and the memory that a list of words is.
+-- The words of the table by name, where each of them stands, and the memory that a list of words makes up.
 use Rattle.std.specs.Prelude.{◌≡◌, ℕ, ◌+◌, ◌-◌, ◌*◌, ◌/◌, ◌%◌, cond, if◌then◌else◌, List, length, nat_lt, nat_le, ◌==◌, ◌&&◌, Bool, true, false, slice_index, slice_set, Option, Some, None}
 use Rattle.index_words.specs.declared.layout.Layout.{Layout}
 use Rattle.index_words.specs.declared.side.Side.{Side}
@@ -90,15 +90,15 @@ same_word _ _ = false
 abbrev pub Memory : Type 0
 Memory = Word → ℕ
 
--- what the words of a list hold, and 0 for a word that is not there
+-- what the words of a list hold, and 0 for a word that the table does not have
 abbrev pub memory : Layout → List ℕ → Memory
 memory z words w = cond (is_there z w) (slice_index words (address z w)) 0
 
--- one word anew
+-- the memory with a new value at one word
 abbrev pub written : Memory → Word → ℕ → Memory
 written m w x v = cond (same_word v w) x (m v)
 
--- a store at the number of a word is that word anew
+-- a store at the number of a word changes exactly that word
 abbrev pub StoreLaw : Type 0
 StoreLaw = (z : Layout) (words : List ℕ) (w : Word) (x : ℕ) → length words ≡ word_count z → is_there z w ≡ true
     → memory z (slice_set words (address z w) x) ≡ written (memory z words) w x

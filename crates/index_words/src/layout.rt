@@ -1,3 +1,4 @@
+// The sizes of a table, and their limits.
 ghost use Rattle.std.specs.Prelude.{◌≡◌, ◌≤◌, ◌↔◌, IsSome, IfSome, IsTrue, length};
 ghost use Rattle.index_words.specs.Sizes.{FitTable, IsPassSize, layout_of, all_nodes, all_entries, all_calls};
 
@@ -63,9 +64,9 @@ fn sum_of_calls(sizes: &[PassSize]) -> u64
 }
 
 impl Layout {
-    /// The layout of a table with these passes. None where there are none or more than 32 of them, where
-    /// one has no node or fewer than 4 entries, or where the sum of nodes is above 262,144, of entries
-    /// above 1,048,576 or of calls above 16,777,216.
+    /// The layout of a table with these passes. None if there are none or more than 32 of them, if one has no node or
+    /// fewer than 4 entries, or if the sum of nodes is above 262,144, of entries above 1,048,576 or of calls above
+    /// 16,777,216.
     pub fn new(sizes: &[PassSize]) -> Option<Layout>
         ensures fits { IsSome result ↔ FitTable sizes.now }
         ensures sums { IfSome result (λ z. z ≡ layout_of sizes.now) }

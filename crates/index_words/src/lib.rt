@@ -1,6 +1,6 @@
-//! The words of the shared table, and what a seat of it knows. The public names of `key_map` are its own too. The
-//! layers above use the definitions of `specs/`, the plain types below, and `Layout`, which says where each word of the
-//! table stands.
+//! The words of the shared table, and what a seat of it knows. The public names of `key_map` are reexported. The layers
+//! above use the definitions of `specs/`, the plain types below, and `Layout`, which says where each word of the table
+//! stands.
 #![tactic(auto)]
 
 mod layout;

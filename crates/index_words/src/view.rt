@@ -14,8 +14,8 @@ pub use update::{
     Held, HeldNext, HeldNode, HeldSide, LoadedHead, OwedTag, Unlinking, UnsetLink, Updating,
 };
 
-/// What a seat knows and owns: plain data, which only the seat's own steps change. It is the view of a
-/// seat of the pure machine and, as ghost data, of a seat of the running table.
+/// What a seat knows and owns: plain data, which only the seat's own steps change. It is the view of a seat of the pure
+/// machine and, as ghost data, of a seat of the running table.
 #[derive(Drop)]
 pub struct View {
     /// The table's layout.
@@ -24,7 +24,7 @@ pub struct View {
     pub number: Option<u32>,
     /// Whether the seat was joined into another one. Nothing is said of such a view.
     pub joined: bool,
-    /// The numbers that it has still to give, while the table is opened.
+    /// The numbers that it still has to give, while the table is opened.
     pub to_give: Items<u32>,
     /// What its own section word holds, and 0 without a number.
     pub section_word: u64,
@@ -32,7 +32,7 @@ pub struct View {
     pub announced: u64,
     /// The updates that it knows of, and those that it made.
     pub history: SeenHistory,
-    /// How often a step met what another seat had done.
+    /// How often a step found what another seat had done.
     pub counts: Counts,
     /// What it has read in its section.
     pub reading: Reading,
@@ -46,10 +46,10 @@ pub struct View {
     pub retired: Slots,
     /// The slots that wait for the end of a grace period.
     pub batch: Slots,
-    /// What its looks at other sections have shown since the batch was taken.
+    /// What it has found in other sections since the batch was taken.
     pub grace: Looks,
-    /// The slots that it has had since the table was opened, without those of which it has filled a word and those that
-    /// came back to it. As long as one of them is free, its words are 0, but for the lock.
+    /// The slots that it has had since the table was opened, except those of which it has filled a word and those that
+    /// came back to it. As long as one of them is free, its words are 0, except for the lock.
     pub unused: Slots,
 }
 

@@ -1,17 +1,18 @@
+// The words of the table by name, and the number of each.
 ghost use Rattle.std.specs.Prelude.{◌≡◌, ◌<◌, ◌≤◌, ◌^◌, ◌↔◌, IfSome, IsNone, true};
 ghost use Rattle.index_words.specs.Words.{address, word_count, is_there, word_at, nodes_begin, entries_begin, side_number, field_number, part_number, field_at, part_at};
 
 use crate::layout::Layout;
 use crate::side::Side;
 
-/// A field of a node. `Link` and `Tag` are those of Citrus's plain search.
+/// A field of a node. `Link` and `Tag` are those of the plain search of Citrus.
 #[derive(Clone, Copy, Debug, PartialEq, Eq)]
 pub enum Field {
     Key,
     Val,
     /// 0, or the holder's pass number plus 1.
     Lock,
-    /// 1 once the node was taken out of the tree, else 0.
+    /// 1 once the node was taken out of the tree, otherwise 0.
     Mark,
     /// The newest entry of the bundle on this side, 0 for none.
     Head(Side),
@@ -158,7 +159,7 @@ impl Layout {
         }
     }
 
-    /// The word with this number. None exactly where the table has no such word.
+    /// The word with this number. None exactly if the table has no such word.
     pub fn word_at(&self, number: u64) -> Option<Word>
         ensures value { result ≡ word_at self.now number }
         ensures found { IfSome result (λ w. (is_there self.now w ≡ true) × (address self.now w ≡ number)) }

@@ -1,4 +1,4 @@
--- How often a number stands in a list.
+-- How often a number occurs in a list.
 use Rattle.std.proofs.Common.{◌≡◌, ℕ, ◌+◌, ◌<◌, cond, List, [], ◌∷◌, ◌++◌, Bool, true, false, eqb, arith, refl, ◌||◌}
 use Rattle.key_map.specs.Lists.{count, has}
 

@@ -1,4 +1,4 @@
--- The map after updates: it is a map, a longer history has the same beginning, and one update more.
+-- The map after updates: it is a map, a longer history has the same beginning, and one more update.
 use Rattle.std.proofs.Common.{◌≡◌, ℕ, ◌+◌, ◌<◌, ◌≤◌, get_or, List, [], ◌∷◌, ◌++◌, length, take, fold, sym, ap, ◌∙◌, refl, arith}
 use Rattle.std.proofs.lemmas.List.{take-append-le, take_all, take_more, length_push}
 use Rattle.std.proofs.lemmas.List.Sums.{fold-append}
@@ -15,7 +15,7 @@ pub after-append : (us vs : List Update) (t : ℕ) → t ≤ length us → after
 unfolding after
 after-append us vs t le = ap (λ (ws : List Update). fold updated [] ws) (take-append-le t us vs le)
 
--- one update more
+-- one more update
 pub after-push : (us : List Update) (u : Update) → after (us ++ u ∷ []) (length us + 1) ≡ updated (after us (length us)) u
 unfolding after
 after-push us u =

@@ -54,7 +54,7 @@ pub map_remove-absent : (key : ℕ) (m : List Pair) → map_has key m ≡ false 
 map_remove-absent key [] e = refl
 map_remove-absent key (p ∷ ps) e = grind (arith, nat_tests, map_remove-absent key ps)
 
--- the key is in the map exactly where it stands at its place
+-- the key is in the map exactly if it stands at its place
 pub map_has-at_place : (key low : ℕ) (m : List Pair) (d : Pair) → RisesFrom low m → place key m < length m
     → map_has key m ≡ ((get_or m (place key m) d).key == key)
 map_has-at_place key low [] d r l = absurd (omega arith)
@@ -81,7 +81,7 @@ key-from_low low [] j d r l = absurd (omega arith)
 key-from_low low (p ∷ ps) zero d r l = r.0
 key-from_low low (p ∷ ps) (suc j) d r l = let h : p.key + 1 ≤ (get_or ps j d).key = key-from_low (p.key + 1) ps j d r.1 (omega arith) in let k : low ≤ p.key = r.0 in omega arith
 
--- the keys of a map don't fall
+-- the keys of a map do not fall
 pub keys_rise : (low : ℕ) (m : List Pair) → RisesFrom low m → (i j : ℕ) (d : Pair) → i ≤ j → j < length m → (get_or m i d).key ≤ (get_or m j d).key
 keys_rise low [] r i j d le l = absurd (omega arith)
 keys_rise low (p ∷ ps) r zero zero d le l = omega arith
@@ -93,7 +93,7 @@ find-absent : (key low : ℕ) (m : List Pair) → key < low → RisesFrom low m 
 find-absent key low [] le r = refl
 find-absent key low (p ∷ ps) le r = grind (arith, nat_tests, find-absent key (p.key + 1) ps)
 
--- a key's value is that of the first pair from it on, where that is the key's
+-- a key's value is that of the first pair from it on, if that pair is the key's
 pub map_get-first_from : (key low : ℕ) (m : List Pair) → RisesFrom low m → map_get key m ≡ value_at key (first_from key m)
 map_get-first_from key low [] r = refl
 map_get-first_from key low (p ∷ ps) r = grind (arith, nat_tests, map_get-first_from key (p.key + 1) ps, find-absent key (p.key + 1) ps)

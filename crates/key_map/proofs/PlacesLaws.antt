@@ -13,7 +13,7 @@ places_from-own : (number at : ℕ) (us : List Update) (u : Update) → u.client
 places_from-own number at [] u e = grind (arith, nat_tests)
 places_from-own number at (v ∷ us) u e = grind (arith, nat_tests, places_from-own number (at + 1) us u e)
 
--- an own update more
+-- one more update of its own
 pub own_places-own : (number : ℕ) (us : List Update) (u : Update) → u.client ≡ number
     → own_places number (us ++ u ∷ []) ≡ own_places number us ++ (length us + 1) ∷ []
 own_places-own number us u e = places_from-own number 1 us u e ∙ ap (λ (n : ℕ). places_from number 1 us ++ n ∷ []) (omega arith)
@@ -25,7 +25,7 @@ places_from-append number at (u ∷ us) vs = grind (arith, nat_tests, places_fro
 pub own_places-append : (number : ℕ) (us vs : List Update) → own_places number (us ++ vs) ≡ own_places number us ++ places_from number (1 + length us) vs
 own_places-append number us vs = places_from-append number 1 us vs
 
--- where the pass has no place, it has no update
+-- if the pass has no place, it has no update
 pub none_own : (number at : ℕ) (us : List Update) → length (places_from number at us) ≡ 0 → (i : ℕ) (u : Update) → slice_get us i ≡ Some u → u.client ≡ number → ⊥
 none_own number at [] e i u here own = cc
 none_own number at (v ∷ us) e zero u here own =
@@ -38,7 +38,7 @@ none_own number at (v ∷ us) e (suc i) u here own =
       | inr other ↦ none_own number (at + 1) us (rw other at e) i u here own
     ]
 
--- where no update from one place on is the pass's, the updates in front have all its places
+-- if no update from one place on is the pass's, the updates before that place have all its places
 pub places_take : (number at : ℕ) (us : List Update) (k : ℕ) → ((i : ℕ) (u : Update) → k ≤ i → slice_get us i ≡ Some u → u.client ≡ number → ⊥)
     → places_from number at (take k us) ≡ places_from number at us
 places_take number at [] zero none = refl

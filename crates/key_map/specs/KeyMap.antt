@@ -1,5 +1,5 @@
--- The map from keys to values, and the map after the first updates of a history. A map is a list of pairs whose keys rise
--- strictly. A key is a number; where it is a rank in the directory it stands for the name there, so the pairs stand in
+-- The map from keys to values, and the map after the first updates of a history. A map is a list of pairs whose keys
+-- rise strictly. A key is a number; if it is a rank in the directory it stands for the name there, so the pairs are in
 -- the byte order of names. Updates are numbered from 1.
 use Rattle.std.specs.Prelude.{ℕ, Bool, List, [], ◌∷◌, fold, take, nat_lt, ◌==◌, if◌then◌else◌, Option, find}
 use Rattle.std.specs.List.{list_any}
@@ -16,7 +16,7 @@ pair key val = record { key = key; val = val }
 abbrev pub map_has : ℕ → List Pair → Bool
 map_has key m = list_any (λ (p : Pair). p.key == key) m
 
--- the key's value, where it is in the map
+-- the key's value, if it is in the map
 abbrev pub map_get : ℕ → List Pair → Option ℕ
 map_get key m = option_map (λ (p : Pair). p.val) (find (λ (p : Pair). p.key == key) m)
 

@@ -1,3 +1,5 @@
+-- The definitions of this crate, by file.
+
 pub mod KeyMap
 pub mod Map
 pub mod History

@@ -3,12 +3,12 @@
 use Rattle.std.specs.Prelude.{◌≡◌, ℕ, ◌+◌, ◌<◌, cond, List, [], ◌∷◌, Bool, ◌==◌, length, slice_index_or}
 use Rattle.std.specs.List.{list_any}
 
--- how often a number stands in a list
+-- how often a number occurs in a list
 abbrev pub count : ℕ → List ℕ → ℕ
 count x [] = 0
 count x (y ∷ ys) = cond (y == x) 1 0 + count x ys
 
--- whether a number stands in a list
+-- whether a number occurs in a list
 abbrev pub has : ℕ → List ℕ → Bool
 has x xs = list_any (λ y. y == x) xs
 

@@ -1,3 +1,4 @@
+// The list type that contracts see: a vector whose items are its model.
 ghost use Rattle.std.specs.Prelude.{◌≡◌, ◌<◌, ◌++◌, ◌∷◌, [], length, take, IfOk, OnOk, OnErr, ◌==◌};
 
 use crate::no_memory::NoMemory;
@@ -28,7 +29,7 @@ impl<T> Items<T> {
         }
     }
 
-    /// The items of a vector, whose memory is used on.
+    /// The items of a vector. The vector's memory is reused.
     pub fn from_vec(items: Vec<T>) -> Items<T>
         ensures { result ≡ items.items }
     {
@@ -60,7 +61,7 @@ impl<T> Items<T> {
         self.items.as_slice()
     }
 
-    /// Takes the first item out.
+    /// Removes the first item and returns it.
     pub fn remove_first(&mut self) -> T
         requires { 0 < length self.old }
         ensures { self.old ≡ result ∷ self.new }
@@ -70,7 +71,7 @@ impl<T> Items<T> {
 }
 
 impl<T: Drop> Items<T> {
-    /// Adds an item at the end. After a refusal the list is unchanged.
+    /// Appends an item. If memory is refused the list is unchanged.
     pub fn push(&mut self, item: T) -> Result<(), NoMemory>
         ensures ok { OnOk result (self.new ≡ self.old ++ item ∷ []) }
         ensures err { OnErr result (self.new ≡ self.old) }
@@ -79,7 +80,7 @@ impl<T: Drop> Items<T> {
         Ok(())
     }
 
-    /// Drops all items, and keeps their memory.
+    /// Drops all items and keeps their memory.
     pub fn clear(&mut self)
         ensures { self.new ≡ [] }
     {
@@ -95,7 +96,7 @@ impl<T: Drop> Items<T> {
 }
 
 impl<T: Copy> Items<T> {
-    /// Adds the items of another list at the end. After a refusal the list is unchanged.
+    /// Appends the items of another list. If memory is refused the list is unchanged.
     pub fn append(&mut self, other: &[T]) -> Result<(), NoMemory>
         ensures ok { OnOk result (self.new ≡ self.old ++ other.now) }
         ensures err { OnErr result (self.new ≡ self.old) }
@@ -104,7 +105,7 @@ impl<T: Copy> Items<T> {
         Ok(())
     }
 
-    /// The items of one list and then those of another.
+    /// The items of one list followed by those of another.
     pub fn concat(alloc: Global, first: &[T], second: &[T]) -> Result<Items<T>, NoMemory>
         ensures { IfOk result (λ both. both ≡ first.now ++ second.now) }
     {

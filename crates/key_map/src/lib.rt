@@ -1,6 +1,6 @@
-//! The base of the index: numbers in place of names, the updates that change the map, what the map is
-//! after each of them, and `Items`, the one list type of contracts. The layers above use the definitions of `specs/`, the
-//! plain types below, and `PlainMap`, the map as one sorted list.
+//! The base of the index: numbers in place of names, the updates that change the map, the map after each of them, and
+//! `Items`, the one list type of contracts. The layers above use the definitions of `specs/`, the plain types below,
+//! and `PlainMap`, the map as one sorted list.
 #![tactic(auto)]
 
 mod items;

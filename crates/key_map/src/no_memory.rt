@@ -1,6 +1,7 @@
+// The error of a call that is out of memory.
 use std::alloc::{AllocError, AllocFailed};
 
-/// The answer of a call that was refused memory. What the call was lent is then unchanged.
+/// The answer of a call that was refused memory. What the call borrowed is then unchanged.
 #[derive(Clone, Copy, Debug, PartialEq, Eq)]
 pub struct NoMemory;
 

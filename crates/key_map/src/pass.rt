@@ -6,8 +6,7 @@ pub struct PassSize {
     pub calls: u32,
 }
 
-/// The answer of an update: the place at which the map is as the answer says, and whether the key was
-/// in the map.
+/// The answer of an update: the place at which the map is as the answer says, and whether the key was in the map.
 #[derive(Clone, Copy, Debug, PartialEq, Eq)]
 pub struct Done {
     /// The place of the update, or the place at which the key was found absent.
@@ -15,12 +14,12 @@ pub struct Done {
     pub was: bool,
 }
 
-/// The answer of a put that is made only where the key is not there.
+/// The answer of a put that is made only if the key is absent.
 #[derive(Clone, Copy, Debug, PartialEq, Eq)]
 pub enum New {
-    /// The key was not there, and the put was made: the place of its update.
+    /// The key was absent, and the put was made: the place of its update.
     Made { at: u64 },
-    /// The key was there, and no update was made: the place at which it was found.
+    /// The key was present, and no update was made: the place at which it was found.
     Kept { at: u64 },
 }
 

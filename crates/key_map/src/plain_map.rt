@@ -1,3 +1,4 @@
+// The map as one sorted list of pairs.
 ghost use Rattle.std.specs.Prelude.{◌≡◌, ◌+◌, ◌<◌, ◌≤◌, [], length, vec_len, vec_capacity, insert, slice_get, IfOk, MatchResult, true, false, nat_lt};
 ghost use Rattle.std.specs.List.{prefix_len};
 ghost use Rattle.key_map.specs.Map.{IsMap, pair, map_has, map_put, map_remove, first_from};
@@ -8,9 +9,9 @@ use crate::{Change, NoMemory, Pair, Update};
 use std::alloc::Global;
 use std::marker::Model;
 
-/// A map kept as one sorted list of pairs, with memory reserved for a number of pairs. It is the map's
-/// definition made a program: for one caller, for small inputs and to compare with.
-/// A put costs a look-up by binary search and a move of the pairs behind it.
+/// A map kept as one sorted list of pairs, with memory reserved for a number of pairs. It is a program for the map's
+/// definition: for one caller, for small inputs and for comparison. A put costs a look-up by binary search and a move
+/// of the pairs after it.
 #[derive(Drop)]
 pub struct PlainMap {
     pairs: Vec<Pair>,
@@ -49,7 +50,7 @@ impl PlainMap {
         Ok(map)
     }
 
-    /// The pairs, by rising keys.
+    /// The pairs, by ascending keys.
     pub fn pairs(&self) -> &[Pair]
         ensures pairs { result.now ≡ self.now.pairs }
         ensures rising { IsMap result.now }
@@ -64,14 +65,14 @@ impl PlainMap {
         first_from(&self.pairs, key)
     }
 
-    /// Whether the key is there.
+    /// Whether the key is present.
     pub fn has(&self, key: u64) -> bool
         ensures { result ≡ map_has key self.now.pairs }
     {
         look_up(&self.pairs, key).is_ok()
     }
 
-    /// Inserts the pair, or replaces the key's value. Tells whether the key was there.
+    /// Inserts the pair, or replaces the key's value. Returns whether the key was present.
     pub fn put(&mut self, key: u64, val: u64) -> bool
         requires { length self.old.pairs < self.old.room }
         ensures was { result ≡ map_has key self.old.pairs }
@@ -81,7 +82,7 @@ impl PlainMap {
         put_in_room(&mut self.pairs, Pair { key, val })
     }
 
-    /// Takes the key out. Tells whether it was there.
+    /// Removes the key. Returns whether it was present.
     pub fn remove(&mut self, key: u64) -> bool
         ensures was { result ≡ map_has key self.old.pairs }
         ensures map { self.new ≡ roomy (map_remove key self.old.pairs) self.old.room }
@@ -90,7 +91,7 @@ impl PlainMap {
         remove_from(&mut self.pairs, key)
     }
 
-    // Makes the update's change.
+    // Makes the change of the update.
     fn apply(&mut self, update: &Update)
         requires { length self.old.pairs < self.old.room }
         ensures map { self.new ≡ roomy (updated self.old.pairs update.now) self.old.room }
@@ -162,7 +163,7 @@ fn look_up(pairs: &[Pair], key: u64) -> Result<usize, usize>
     }
 }
 
-// How many pairs have a key below `key`: they stand at the front.
+// How many pairs have a key below `key`: they are the first ones.
 fn place_of(pairs: &[Pair], key: u64) -> usize
     requires { IsMap pairs.now }
     ensures bound { result ≤ length pairs.now }
@@ -177,7 +178,7 @@ fn pair_at(pairs: &[Pair], place: usize) -> Option<Pair>
     pairs.get(place).copied()
 }
 
-// Inserts where there is memory left, so it can't fail.
+// Inserts where there is memory left, so it cannot fail.
 fn insert_in_room(pairs: &mut Vec<Pair>, place: usize, pair: Pair)
     requires within { place ≤ vec_len pairs.old }
     requires room { vec_len pairs.old < vec_capacity pairs.old }

@@ -1,9 +1,9 @@
 /// What an update does to its key.
 #[derive(Clone, Copy, Debug, PartialEq, Eq)]
 pub enum Change {
-    /// The key gets this value, whether or not it is there.
+    /// The key gets this value, whether or not it is present.
     Put(u64),
-    /// The key is taken out of the map.
+    /// The key is removed from the map.
     Remove,
 }
 

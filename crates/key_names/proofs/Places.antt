@@ -1,4 +1,4 @@
--- Where the names stand that pass a test, among names that rise.
+-- Among rising names, where those that pass a test stand.
 use Rattle.std.proofs.Common.{◌≡◌, ℕ, ◌+◌, ◌<◌, ◌≤◌, ◌⊎◌, Bool, true, false, List, [], ◌∷◌, length, get_or, count_by, zero, suc, nat_lt, refl, sym, ap, subst, cond, zero-add, arith, inl, inr, ◌∙◌}
 use Rattle.std.specs.declared.cmp.Ordering.{Ordering}
 use Rattle.std.specs.declared.cmp.Ordering.TheVariants.{Less, Equal, Greater}
@@ -100,7 +100,7 @@ count_from_point p (x ∷ xs) (suc i) within point =
 one_less : (m n : ℕ) → nat_lt (suc m) (1 + n) ≡ nat_lt m n
 one_less m n = grind (arith, nat_tests)
 
--- where the first element passes, each later place is told by the others
+-- where the first element passes, each later place depends on the others
 after_passing : {X : Type 0} (p : X → Bool) (x : X) (xs : List X) → p x ≡ true → ((k : ℕ) (d : X) → k < length xs → nat_lt k (count_by p xs) ≡ p (get_or xs k d)) → (k : ℕ) (d : X) → k < length (x ∷ xs) → nat_lt k (count_by p (x ∷ xs)) ≡ p (get_or (x ∷ xs) k d)
 after_passing p x xs passes others zero d below =
     lt-ltb 0 _ (let counted = count_passing p x xs passes in omega (arith, counted)) ∙ sym passes

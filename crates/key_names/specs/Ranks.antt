@@ -1,5 +1,5 @@
 -- Helper: the headline does not rest on this file.
--- Where names stand in a directory against a text.
+-- Where the names of a directory stand relative to a text.
 use Rattle.std.specs.Prelude.{◌≡◌, ℕ, ◌<◌, ◌≤◌, ◌↔◌, Bool, ◌||◌, IsTrue, nat_lt, List, length, All}
 use Rattle.std.specs.Ordering.{is_lt, is_le}
 use Rattle.key_names.specs.Names.{byte_order, IsFine, Rises, name_at, begins_with}

@@ -20,7 +20,7 @@ pub record AreTooMany (names : List (List ℕ)) : Type 0 where
   pub each_once : HoldsEachOnce names distinct
   pub many : most_names < length distinct
 
--- the first faulty name is named, with its fault; want of memory says nothing of the names
+-- the first faulty name is reported, with its fault; running out of memory says nothing about the names
 abbrev pub IsRefusal : List (List ℕ) → NamesError → Type 0
 IsRefusal names (Empty place) = IsFirstWith (λ name. length name ≡ 0) names place
 IsRefusal names (TooLong place) = IsFirstWith (λ name. most_name_bytes < length name) names place

@@ -33,9 +33,9 @@ impl Model for Directory {
 }
 
 impl Directory {
-    /// The directory of these names, each of which may be given more than once. They are sorted in place, so
-    /// the allocator is not asked for memory, and `NoMemory` does not come. The first faulty name is told, and only where
-    /// there is none `TooMany`.
+    /// The directory of these names, each of which may be given more than once. They are sorted in place, so the
+    /// allocator is not used and `NoMemory` never occurs. The first faulty name is reported; `TooMany` only if there
+    /// is none.
     ///
     /// ```
     /// let names = vec![in alloc; Text::of(alloc, "b")?, Text::of(alloc, "a/1")?, Text::of(alloc, "b")?]?;
@@ -83,7 +83,7 @@ impl Directory {
         }
     }
 
-    /// The number of names below `name`, which is the rank of the first that is not.
+    /// The number of names below `name`, which is the rank of the first name that is not below it.
     pub fn at_or_after(&self, name: &[u8]) -> u64
         ensures count { result ≡ count_by (λ here. is_before here name.now) self.now }
         ensures first { StandFirst (λ here. is_before here name.now) self.now result }
@@ -99,7 +99,7 @@ impl Directory {
         self.names.partition_point(|here| stands_up_to(here, name)) as u64
     }
 
-    /// As `after`, of a text, which is compared faster than bytes of which nothing is known.
+    /// As `after`, for a text, which is compared faster than bytes of which nothing is known.
     pub fn after_text(&self, text: &Text) -> u64
         ensures count { result ≡ count_by (λ here. is_upto here text.now) self.now }
         ensures first { StandFirst (λ here. is_upto here text.now) self.now result }
@@ -142,7 +142,7 @@ impl Directory {
     }
 }
 
-// How a name stands to these bytes in the byte order.
+// How a name compares with these bytes in byte order.
 fn order(name: &Text, bytes: &[u8]) -> Ordering
     ensures { result ≡ byte_order name.now bytes.now }
 {

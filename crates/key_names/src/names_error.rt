@@ -1,5 +1,5 @@
-/// Why a list of names makes no directory. The number is the place of the first faulty name, from 0. A faulty name is told
-/// before too many names.
+/// Why a list of names makes no directory. The number is the place of the first faulty name, from 0. A faulty name is
+/// reported before too many names.
 #[derive(Clone, Copy, Debug, PartialEq, Eq)]
 pub enum NamesError {
     /// The name has no bytes: an object key has at least one.
@@ -8,6 +8,6 @@ pub enum NamesError {
     TooLong(usize),
     /// The names, each counted once, are more than 4,294,967,295, and none of them is faulty: a rank has 32 bits.
     TooMany,
-    /// The allocator refused. `Directory::new`, which sorts in place, never answers it.
+    /// The allocator refused. `Directory::new`, which sorts in place, never returns it.
     NoMemory,
 }

@@ -1,3 +1,4 @@
+// The error of a call whose allocation was refused.
 use std::alloc::{AllocError, AllocFailed};
 
 /// The allocator refused. What the call was lent is unchanged.

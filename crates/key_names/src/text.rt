@@ -18,9 +18,9 @@ use std::marker::Model;
 /// The most bytes of a text that lies in the value itself. A usual name and a tag have fewer.
 const SHORT_BYTES: usize = 64;
 
-/// A text: a name, a prefix, a tag. Texts are compared byte by byte, as unsigned numbers, and a text
-/// stands before its own continuations. It is the order in which Amazon S3 lists keys. `Text::of` makes a text of at
-/// most 64 bytes without an allocation; `Text::from_string` keeps what the string has.
+/// A text: a name, a prefix, a tag. Texts are compared byte by byte, as unsigned numbers, and a text comes before its
+/// own continuations. This is the order in which Amazon S3 lists keys. `Text::of` makes a text of at most 64 bytes
+/// without an allocation; `Text::from_string` keeps what the string has.
 #[derive(Debug, Drop)]
 pub struct Text {
     kept: Kept,

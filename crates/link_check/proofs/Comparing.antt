@@ -40,7 +40,7 @@ top_there (Branch slot key val left right) some =
       own_node slot (tree_slots (tree_nodes right)),
     )
 
--- an item of two lists one behind the other
+-- an item of two lists one after the other
 item_of : {X : Type 0} (xs ys : List X) (i : ℕ) (x : X) → IsItem (xs ++ ys) i x → ((j : ℕ) × IsItem xs j x) ⊎ ((j : ℕ) × IsItem ys j x)
 item_of [] ys i x at = inr (i, at)
 item_of (y ∷ xs) ys zero x at = inl (0, record { within = omega arith; is = λ d. at.is d })

@@ -1,4 +1,4 @@
--- A pass that has locked no node locks one, looks at its links, and gives the lock back.
+-- A pass that has locked no node locks one, looks at its links, and unlocks it.
 use Rattle.std.proofs.Common.{◌≡◌, ℕ, ◌+◌, ◌<◌, ◌≤◌, inl, inr, [], ◌∷◌, Bool, false, refl, ap, ◌∙◌, sym, subst, arith, Some, Option, Result, Ok, Err, IfOk, IfErr}
 use Rattle.index_words.specs.declared.side.Side.{Side}
 use Rattle.index_words.specs.declared.view.View.{View}
@@ -38,7 +38,7 @@ use Rattle.update_search.proofs.Nodes.{IsNode, place_node}
 use Rattle.update_search.proofs.OddLocks.{holds_last, may_unlock, unlock_keeps}
 use Rattle.link_check.specs.TreeLinks.{HasNoLock, IsInTree, ReadsOn, StandsAtNode}
 
--- it reads at its number
+-- a pass that has locked no node reads at its number
 pub inside_of : (v : View) (bare : HasNoLock v) → InsideAt v bare.1.number
 inside_of v bare = record { section = bare.1.section; inside = record { odd = bare.1.working.inside; unlocked = no-node v.held.nodes bare.1.locked } }
 
@@ -51,12 +51,12 @@ inside_on v w at reads bare on = record {
 pub places_none : (v w : View) → KeepsPlaces v w → HasNoLock v → HasNoLock w
 places_none v w places bare = (bare.0, places.trying bare.0 [] bare.1)
 
--- a search has ended, or was given up
+-- a search that has ended, or was given up, keeps the places
 pub places_found : (v w : View) (found : Result (Option Aim) Failed) → IfOk found (λ aim. KeepsSearch v w) → IfErr found (λ failed. KeepsPlaces v w) → KeepsPlaces v w
 places_found v w (Ok aim) keeps given = keeps.places
 places_found v w (Err failed) keeps given = given
 
--- and does so when it has read in the bundles
+-- a pass that has locked no node still has none locked after it has read in the bundles
 pub read_none : (v w : View) → HasRead v w → HasNoLock v → HasNoLock w
 read_none v w read bare =
     let t = bare.1 in
@@ -94,13 +94,13 @@ key_top laws v node x top = record {
   none = top.none;
 }
 
--- the root is no node that a seat has taken out
+-- the root is not a node that a seat has taken out
 pub root_other : (v : View) → IsLiveView v → count 0 v.retired.nodes ≡ 0
 root_other v live =
     let s = live.stands in
     omega (arith, s.rule.rule.slots.nodes.one 0, one_term (own nodes_of 0) s.views s.seat v (item_at s.views s.seat v s.at))
 
--- a search stands at no root
+-- a search does not stand at the root
 pub stands_some : (v : View) (node : ℕ) → IsLiveView v → StandsAtNode v node → 0 < node
 stands_some v node live stands =
     let s = live.stands in

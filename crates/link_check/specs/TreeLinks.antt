@@ -23,7 +23,7 @@ StandsAtNode v node = (key : ℕ) × (v.reading.place ≡ AtNode node (Some key)
 abbrev pub HasNoLock : View → Type 0
 HasNoLock v = (n : ℕ) × IsTrying v n []
 
--- it reads the same tree on, at the same number
+-- it still reads the same tree, at the same number
 pub record ReadsOn (v w : View) : Type 0 where
   pub tree : w.reading.tree ≡ v.reading.tree
   pub section : w.reading.section ≡ v.reading.section

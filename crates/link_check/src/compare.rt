@@ -1,3 +1,4 @@
+// The comparison of the plain links with the tree: node by node, from the root's link down.
 ghost use Rattle.std.specs.Prelude.{◌≡◌, ◌<◌, [], IfOk};
 ghost use Rattle.index_words.specs.declared.view.View.{View};
 ghost use Rattle.key_map.specs.Lists.{Every};
@@ -18,11 +19,11 @@ use update_search::{Aim, begin_search, find_aim, search_laws};
 pub enum Unlike {
     /// This plain link holds another child than the link of the tree.
     Link(Link),
-    /// A search down the plain links for the key of this node of the tree has not come to the node.
+    /// A search down the plain links for the key of this node of the tree has not reached the node.
     Node(u32),
     /// Another pass was at work at this node: an entry had no number yet, or the lock was held.
     AtWork(u32),
-    /// There was no memory for the nodes that are still to be compared.
+    /// Out of memory for the nodes that are still to be compared.
     NoMemory,
 }
 
@@ -76,7 +77,7 @@ fn tree_children(pass: &mut TablePass<'_>, at: u64, node: u32) -> Result<Childre
     Ok(Children { left, right })
 }
 
-/// What the plain link of the root holds. It is loaded under the root's lock, and a search can begin behind the unlock.
+/// What the plain link of the root holds. It is loaded under the root's lock, and a search can begin after the unlock.
 fn plain_top(pass: &mut TablePass<'_>) -> Result<u32, Unlike>
     requires unlocked { HasNoLock pass.old.view }
     ensures same { IsSamePass pass.old pass.new }
@@ -94,7 +95,7 @@ fn plain_top(pass: &mut TablePass<'_>) -> Result<u32, Unlike>
     Ok(top)
 }
 
-/// What the plain links of a node hold at which a search stands. They are loaded under the node's lock.
+/// What the plain links of a node hold, at which a search stands. They are loaded under the node's lock.
 fn locked_children(pass: &mut TablePass<'_>, node: u32) -> Result<Children, Unlike>
     requires unlocked { HasNoLock pass.old.view }
     requires stands { StandsAtNode pass.old.view node }
@@ -117,7 +118,7 @@ fn locked_children(pass: &mut TablePass<'_>, node: u32) -> Result<Children, Unli
     Ok(Children { left, right })
 }
 
-/// What the plain links of a node hold, to which a search for its key comes.
+/// What the plain links of a node hold. A search for the node's key has to reach the node.
 fn plain_children(pass: &mut TablePass<'_>, node: u32) -> Result<Children, Unlike>
     requires unlocked { HasNoLock pass.old.view }
     requires node { IsInTree pass.old.view node }
@@ -138,7 +139,7 @@ fn plain_children(pass: &mut TablePass<'_>, node: u32) -> Result<Children, Unlik
     locked_children(pass, node)
 }
 
-/// Adds a child, where it is not 0.
+/// Adds a child, if it is not 0.
 fn add_child(todo: &mut Vec<u32>, child: u32) -> Result<(), AllocError>
     ensures { IfOk result (λ _. (v : View) → (0 < child → IsInTree v child) → Every (IsInTree v) todo.old.items → Every (IsInTree v) todo.new.items) }
 {
@@ -180,7 +181,7 @@ fn compare(pass: &mut TablePass<'_>, at: u64, node: u32, todo: &mut Vec<u32>) ->
     Ok(())
 }
 
-/// Compares the links of these nodes, and of all below them. How many nodes they were.
+/// Compares the links of these nodes, and of all below them. Returns how many nodes there were.
 fn compare_all(pass: &mut TablePass<'_>, at: u64, todo: &mut Vec<u32>) -> Result<u64, Unlike>
     requires reads { InsideAt pass.old.view at }
     requires unlocked { HasNoLock pass.old.view }
@@ -219,12 +220,12 @@ fn compare_tree(pass: &mut TablePass<'_>, at: u64, todo: &mut Vec<u32>) -> Resul
     compare_all(pass, at, todo)
 }
 
-/// Compares each plain link of the tree at the stamp with the link of the tree. How many there are: one more than twice
-/// the nodes.
+/// Compares each plain link of the tree at the stamp with the link of the tree. Returns how many links there are: one
+/// more than twice the nodes.
 ///
 /// # Errors
-/// `Link` where one holds another child, `Node` where a search does not come to a node. `AtWork` where another pass is
-/// in the midst of an update: on a table on which none is under way it does not come. `NoMemory`.
+/// `Link` if a link holds another child, `Node` if a search does not reach a node. `AtWork` if another pass is in the
+/// middle of an update: on a table on which no update is under way it does not occur. `NoMemory` when out of memory.
 pub fn compare_links(alloc: Global, pass: &mut TablePass<'_>) -> Result<u64, Unlike>
     requires rest { AtRest pass.old.view }
     ensures same { IsSamePass pass.old pass.new }

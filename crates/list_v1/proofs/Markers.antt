@@ -1,4 +1,4 @@
--- The text of a page's last entry, taken as a marker, names the point behind the page.
+-- The text of a page's last entry, taken as a marker, names the point after the page.
 use Rattle.std.proofs.Common.{◌≡◌, ℕ, zero, suc, ◌+◌, ◌<◌, ◌≤◌, ◌==◌, ◌&&◌, Bool, true, false, cond, nat_lt, MatchOption, MatchBool, List, [], ◌∷◌, ◌++◌, All, get_or, length, take, Option, Some, None, refl, sym, ◌∙◌, ap, subst, inl, inr, arith}
 use Rattle.std.specs.List.{last_or}
 use Rattle.std.specs.Option.{option_map, option_map_or}
@@ -31,7 +31,7 @@ point_with query marker b some is =
     ap (λ t. cond t None (Some (cond (is_common_prefix (plain query) marker) (AtGroup marker) (AtKey marker)))) given
     ∙ ap (λ t. Some (cond t (AtGroup marker) (AtKey marker))) is
 
--- the text of an entry, taken as a marker, names the point behind the entry
+-- the text of an entry, taken as a marker, names the point after the entry
 entry_again : (dir : List (List ℕ)) (query : V1Query) (pair : Pair) (o : Option ℕ) → 0 < length (name_at dir pair.key) → begins_with (name_at dir pair.key) query.prefix ≡ true
     → group_len (plain query) (name_at dir pair.key) ≡ o
     → marker_point (from_marker query (point_text (entry_point dir (entry_by o pair)))) ≡ Some (entry_point dir (entry_by o pair))
@@ -52,7 +52,7 @@ entry_again dir query pair (Some len) some begins h =
     point_with query text true (omega (arith, rolled.some, rolled.ends, long)) (and_from _ _ front ends)
 
 module _ (dir : List (List ℕ)) (m : List Pair) (rises : Rises dir) (fine : All IsFine dir) (map : IsMap m) where
-  -- a truncated page has a last entry, whose text names the point behind the page
+  -- a truncated page has a last entry, whose text names the point after the page
   record IsNamed (query : V1Query) (page : Page) : Type 0 where
     text : List ℕ
     is : last_text dir page ≡ Some text

@@ -1,3 +1,4 @@
+// The markers of listings of version 1, and the query of version 2 that gives the page.
 ghost use Rattle.std.specs.Prelude.{◌≡◌, IfOk, List};
 ghost use Rattle.key_map.specs.Map.{IsMap};
 ghost use Rattle.key_map.specs.declared.pair.Pair.{Pair};
@@ -10,7 +11,8 @@ use key_names::{Directory, NoMemory, Text};
 use page_rules::group_len;
 use std::alloc::Global;
 
-/// The query of version 2 with the same parameters: no token, and no key to start after. An error is want of memory.
+/// The query of version 2 with the same parameters: no token, and no key to start after. The only error is out of
+/// memory.
 pub fn plain_query(alloc: Global, query: &V1Query) -> Result<ListQuery, NoMemory>
     ensures query { IfOk result (λ made. made ≡ plain query.now) }
 {
@@ -24,9 +26,9 @@ pub fn plain_query(alloc: Global, query: &V1Query) -> Result<ListQuery, NoMemory
     })
 }
 
-/// Where the listing begins (Amazon S3 API reference, ListObjects: `Marker`): behind all keys of the marker where it is
-/// a common prefix of the query, and else behind the key. None exactly where there is no marker. An error is want of
-/// memory.
+/// Where the listing begins (Amazon S3 API reference, ListObjects: `Marker`): after all keys of the marker where it
+/// is a common prefix of the query, and otherwise after the key. None exactly where there is no marker. The only
+/// error is out of memory.
 pub fn point_of(alloc: Global, query: &V1Query) -> Result<Option<TokenPoint>, NoMemory>
     ensures point { IfOk result (λ point. point ≡ marker_point query.now) }
 {
@@ -54,8 +56,8 @@ fn is_common_prefix(query: &ListQuery, marker: &[u8]) -> bool
 }
 
 /// The marker from which the next page is listed: the text of a truncated page's last entry (Amazon S3 API reference,
-/// ListObjects: `NextMarker`). None exactly where the page is not truncated, or the query has no delimiter. An error is
-/// want of memory.
+/// ListObjects: `NextMarker`). None exactly where the page is not truncated, or the query has no delimiter. The only
+/// error is out of memory.
 pub fn next_marker(
     alloc: Global,
     dir: &Directory,
@@ -69,7 +71,7 @@ pub fn next_marker(
     ensures left { (m : List Pair) → IsMap m → page.now ≡ v1_page dir.now query.now m → LeavesTheRest dir.now query.now m page.now }
     ensures chained { (m : List Pair) → IsMap m → BeginsAll dir.now query.now m page.now }
 {
-    // the call's clauses tell the proof that the names rise and are fine
+    // for the proof: the call's clauses say that the names rise and are fine
     let _names = dir.len();
     if query.delimiter.bytes().is_empty() {
         return Ok(None);

@@ -1,12 +1,13 @@
-// Times of listings of a snapshot, over a table whose keys were put in random order. Three words: the kind of the run,
-// how many keys, and how many listings of all of them:
+// Times of listings of a snapshot, over a table whose keys were put in random order. Three arguments: the kind of the
+// run, how many keys, and how many listings of all of them:
 //
 //     way KEYS LISTINGS       each search goes on from the way to the last pair
 //     root KEYS LISTINGS      each search begins at the root
-//     beside KEYS LISTINGS    as `way`, by three passes on threads, beside one that puts all keys anew so many times
+//     beside KEYS LISTINGS    as `way`, by three passes on threads, next to one that puts all keys again so many times
 //
 // A line is printed for each pass: its number, how many pairs it has listed or put, and in how many nanoseconds;
-// `bench/listings` divides. Without words a small run is made, and no nanoseconds are printed.
+// `bench/listings` computes the nanoseconds of an entry. Without arguments a small run is made, and no nanoseconds are
+// printed.
 #![tactic(auto)]
 
 mod run;

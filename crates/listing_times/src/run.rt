@@ -29,7 +29,7 @@ pub(crate) struct Run {
     pub(crate) turns: u32,
 }
 
-/// What a pass that lists has.
+/// The size of a pass that lists.
 const READER: PassSize = PassSize {
     nodes: 1,
     entries: 4,
@@ -62,7 +62,7 @@ fn opened(alloc: Global, run: &Run) -> Result<(SharedTable, Vec<PassKey>), NoMem
     }
 }
 
-/// Puts all keys, where the key is that of pass 0.
+/// Puts all keys, if the key is that of pass 0.
 fn fill<R: Wait>(rt: &R, table: &SharedTable, key: PassKey, run: &Run) -> PassKey
     requires of { IsPassOf table.now key }
     ensures of { IsPassOf table.now result }
@@ -119,7 +119,7 @@ fn work_all<R: Threads + Wait + Clock + Sync>(
     map_vec(rt, keys, &work)
 }
 
-/// Makes a run, and answers what each pass has made.
+/// Makes a run. Returns what each pass has made.
 pub(crate) fn make_run<R: Threads + Wait + Clock + Sync>(
     rt: &R,
     alloc: Global,

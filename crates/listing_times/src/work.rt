@@ -26,7 +26,7 @@ pub(crate) struct Made {
     pub(crate) nanos: u128,
 }
 
-/// Does a task so many times. No nanoseconds are told where the clock cannot be read.
+/// Does a task so many times. The nanoseconds are 0 if the clock cannot be read.
 pub(crate) fn time<R: Wait + Clock>(
     pass: &mut TablePass<'_>,
     rt: &R,

@@ -1,4 +1,4 @@
-// The needs of an announcement, and of a look at another one's: the step, where they are met.
+// The needs of an announcement, and of a look at the announcement of another pass: the step, if they are met.
 ghost use Rattle.std.specs.Prelude.{◌≡◌, IfSome, is_some};
 ghost use Rattle.index_words.specs.declared.word.Word.TheVariants.{Announced};
 ghost use Rattle.core_events.specs.Announcing.{is_own_announced as own_announced, is_announcement as announces, may_announce as announce_needs, may_look_ann as look_needs};

@@ -1,4 +1,4 @@
-// The need of a cut: the step, where it is met.
+// The need of a cut: the step, if it is met.
 ghost use Rattle.std.specs.Prelude.{◌≡◌, IfSome, is_some};
 ghost use Rattle.std.specs.List.{list_any};
 ghost use Rattle.index_words.specs.Words.{memory};

@@ -1,5 +1,5 @@
 //! What each kind of event needs, tested by code, and the step that an allowed event makes, with what its kind needs.
-//! It is a part of the machine of `core_rule`: no crate calls it but those of the machine.
+//! It is a part of the machine of `core_rule`: only the crates of the machine call it.
 #![tactic(auto)]
 
 mod announcing_needs;

@@ -1,4 +1,4 @@
-// The needs of loads of a search: the step, where they are met.
+// The needs of loads of a search: the step, if they are met.
 ghost use Rattle.std.specs.Prelude.{◌≡◌, IfSome, is_some};
 ghost use Rattle.core_events.specs.declared.event.Kind.TheVariants.{LoadStamp, LoadHead, LoadTs, LoadPtr, LoadNext};
 ghost use Rattle.core_events.specs.LoadNeeds.{may_load_stamp as stamp_needs, may_load_head as head_needs, stands_at as place_stands_at, may_load_part as part_needs, may_go_on as goes_on, may_load_next as next_needs};

@@ -1,4 +1,4 @@
-// The needs of events that lock, unlock or mark, and of loads of keys, values and marks: the step, where they are met.
+// The needs of events that lock, unlock or mark, and of loads of keys, values and marks: the step, if they are met.
 ghost use Rattle.std.specs.Prelude.{◌≡◌, IfSome, is_some};
 ghost use Rattle.index_words.specs.Words.{memory};
 ghost use Rattle.core_events.specs.declared.event.Kind.TheVariants.{TryLock, Unlock, LoadMark, Mark, LoadKeyOrVal};

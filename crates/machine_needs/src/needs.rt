@@ -18,7 +18,7 @@ use core_events::{Event, Kind};
 use core_grace::is_own;
 use index_words::{Layout, Update, View, Word};
 
-/// The step of an event without an update, of a kind, at a word by name, by a seat with this view.
+/// The step of an event without an update, at the word with this name, by a seat with this view.
 fn plain_step(
     layout: &Layout,
     words: &[u64],
@@ -85,7 +85,7 @@ fn raise_step(
     }
 }
 
-/// The step of an event whose word has this name. None exactly where the event is not allowed.
+/// The step of an event whose word has this name. None exactly if the event is not allowed.
 pub fn allowed_step(
     layout: &Layout,
     words: &[u64],

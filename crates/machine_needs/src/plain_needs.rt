@@ -1,4 +1,4 @@
-// The needs of loads and stores of plain links and their tags: the step, where they are met.
+// The needs of loads and stores of plain links and their tags: the step, if they are met.
 ghost use Rattle.std.specs.Prelude.{◌≡◌, ◌==◌, ◌&&◌, ◌+◌, not, IfSome, is_some};
 ghost use Rattle.std.specs.List.{list_any};
 ghost use Rattle.index_words.specs.Words.{memory};
@@ -80,14 +80,15 @@ fn unlinks_at(unlinking: Option<Unlinking>, node: u32, side: Side) -> bool
     }
 }
 
-/// Whether a successor is unlinked last, where the link is the one to it.
+/// Whether this is not the link to a successor, or no other link is still to be set: a successor is unlinked last.
 fn keeps_order(update: &Updating, node: u32, side: Side) -> bool
     ensures { result ≡ order_kept node side update.now }
 {
     !(unlinks_at(update.unlinking, node, side) && sets_others(update.unset.as_slice(), node, side))
 }
 
-/// Whether a successor may be unlinked: it is marked, and every other pass was passed since its copy was linked.
+/// Whether a successor, if there is one, may be unlinked: it is marked, and every other pass was passed since
+/// its copy was linked.
 fn may_unlink(layout: &Layout, words: &[u64], view: &View) -> bool
     ensures { result ≡ unlink_needs layout.now (memory layout.now words.now) view.now view.now.update.unlinking }
 {
@@ -104,7 +105,7 @@ fn may_unlink(layout: &Layout, words: &[u64], view: &View) -> bool
     }
 }
 
-/// Whether the link is not the one to a successor, or that may be unlinked.
+/// Whether the link is not the one to a successor, or the successor may be unlinked.
 fn may_unlink_at(layout: &Layout, words: &[u64], view: &View, node: u32, side: Side) -> bool
     ensures { result ≡ unlink_needs_at layout.now (memory layout.now words.now) view.now node side }
 {
@@ -200,8 +201,8 @@ fn owes_at(owed: &[OwedTag], node: u32) -> bool
     owed.iter().any(|tag| tag.node == node)
 }
 
-/// Whether the update has set all plain links of the node, and raised all their tags, and the node is no successor that
-/// is still to be unlinked.
+/// Whether the update has set all plain links of the node and raised all their tags, and the node is not a successor
+/// that is still to be unlinked.
 pub(crate) fn is_done_at(update: &Updating, node: u32) -> bool
     ensures { result ≡ done_at node update.now }
 {

@@ -1,4 +1,4 @@
-// The needs of events that split or join seats, move a section, or fill a word: the step, where they are met.
+// The needs of events that split or join seats, move a section, or fill a word: the step, if they are met.
 ghost use Rattle.std.specs.Prelude.{◌≡◌, ◌&&◌, ◌||◌, not, IfSome, is_some};
 ghost use Rattle.std.specs.List.{list_all, slice_get};
 ghost use Rattle.index_words.specs.Words.{memory};

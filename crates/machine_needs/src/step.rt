@@ -1,23 +1,24 @@
+// The step that an allowed event makes, and what it stores.
 ghost use Rattle.std.specs.Prelude.{◌≡◌};
 ghost use Rattle.machine_needs.specs.StepParts.{store_parts};
 
 use index_words::{Side, Update, Word};
 
-/// What an allowed event does, with what its kind needs: an event is read once, where its needs are tested, and all
-/// that follows works on this.
+/// What an allowed event does, with what its kind needs. An event is read once, when its needs are tested, and all that
+/// follows works on the step.
 #[derive(Clone, Copy)]
 pub enum Step {
     /// Makes a seat without a number, with so many of the free nodes, 0 or 1.
     Split { nodes: u64 },
     /// Takes the other seat in.
     Join { other: u64 },
-    /// Loads the stamp, and fixes a place where it says so.
+    /// Loads the stamp, and fixes a place if `fixes` says so.
     LoadStamp { fixes: bool },
     /// Adds one to the stamp, for this update.
     Raise { update: Update },
-    /// Stores the value where the lock word is 0.
+    /// Stores the value if the lock word is 0.
     TryLock { node: u32, value: u64 },
-    /// Ends a bundle behind this entry, and retires the entries that stood there.
+    /// Ends a bundle after this entry, and retires the entries that stood there.
     Cut { entry: u32 },
     /// Loads a word, and changes the view of its seat alone.
     Load(Load),
@@ -25,7 +26,7 @@ pub enum Step {
     Store(Store),
 }
 
-/// The words that are loaded, but for the stamp.
+/// The words that are loaded, except the stamp.
 #[derive(Clone, Copy)]
 pub enum Load {
     /// The section word of another pass.
@@ -46,14 +47,14 @@ pub enum Load {
     Tag { node: u32, side: Side },
 }
 
-/// The words that are stored, but for locks that are tried.
+/// The words that are stored, except locks that are tried.
 #[derive(Clone, Copy)]
 pub enum Store {
     /// The own section word, which is odd then.
     Enter { pass: u32, value: u64 },
     /// The own section word, which is even then.
     Leave { pass: u32, value: u64 },
-    /// The own announcement: a number plus 1, or 0 where it is taken back.
+    /// The own announcement: a number plus 1, or 0 if it is taken back.
     Announce { pass: u32, value: u64 },
     /// A word of an own free slot.
     Fill { word: Word, value: u64 },
@@ -65,7 +66,7 @@ pub enum Store {
     Unlock { node: u32 },
     /// The mark of a node: 1.
     Mark { node: u32 },
-    /// A plain link: the child that the update has left it to be set to.
+    /// A plain link: the child to which the update is still to set it.
     Link { node: u32, side: Side, child: u64 },
     /// A plain link's tag: one more than before.
     Tag { node: u32, side: Side, tag: u64 },

@@ -1,4 +1,4 @@
-// The needs of an update's events: the step, where they are met.
+// The needs of an update's events: the step, if they are met.
 ghost use Rattle.std.specs.Prelude.{◌≡◌, Some, IfSome, is_some};
 ghost use Rattle.index_words.specs.Words.{memory};
 ghost use Rattle.index_words.specs.declared.word.Word.TheVariants.{Stamp};
@@ -102,7 +102,7 @@ pub(crate) fn prepare(
     None
 }
 
-/// Whether the stamp may be raised, but for the tree.
+/// Whether the stamp may be raised, apart from what is needed of the tree.
 fn may_raise_number(view: &View, value: u64) -> bool
     ensures { result ≡ number_needs view.now Stamp value }
 {

@@ -1,4 +1,4 @@
-// What needs of events ask of a removal that waits before it unlinks a successor.
+// What the needs of events ask of a removal that waits before it unlinks a successor.
 ghost use Rattle.std.specs.Prelude.{◌≡◌, Some};
 ghost use Rattle.std.specs.List.{list_all};
 ghost use Rattle.core_events.specs.Needs.{is_successor as successor_of};
@@ -51,7 +51,7 @@ pub(crate) fn is_waiting(view: &View) -> bool
     }
 }
 
-/// Whether the view has something to look for: slots that wait, or with locks held its wait.
+/// Whether the view has something to look for: slots that wait or, if it holds locks, the wait of its removal.
 pub(crate) fn has_to_look(view: &View) -> bool
     ensures { result ≡ looks_needed view.now }
 {

@@ -30,7 +30,7 @@ tree_at (suc depth) last c slot g some is =
     before : (d : ℕ) → d ≡ suc d - 1
     before d = omega arith
 
--- what is no node of the table is no tree
+-- a number that is not a node of the table is the empty tree
 none_is : (c : ℕ) (b : Bool) → cond b (Some c) None ≡ None → b ≡ false
 none_is c true is = absurd cc
 none_is c false is = refl
@@ -77,7 +77,7 @@ both_true b false q r l h wrong _ _ = absurd cc
 both_true b p false r l h _ wrong _ = absurd cc
 both_true b p q false l h _ _ wrong = absurd cc
 
--- a node that stays at its place is spelled where it is the child, and its two children are spelled
+-- a node that stays in its place is spelled if it is the child and its two children are spelled
 pub top_spells : (g : Graph) (c slot key val child : ℕ) (left right : NamedTree) (result low high : Bool) → slot ≡ c → 0 < slot → key ≡ g.key slot → val ≡ g.val slot
     → low ≡ spells g (g.child Left c) left → high ≡ spells g (g.child Right c) right → result ≡ (eqb child c && low && high)
     → result ≡ spells g child (Branch slot key val left right)
@@ -87,7 +87,7 @@ top_spells g c slot key val child left right result low high is some keys vals l
     ∙ both_true (eqb child slot) (ltb 0 slot) (eqb (g.key slot) key) (eqb (g.val slot) val) (spells g (g.child Left slot) left) (spells g (g.child Right slot) right)
     (lt-ltb 0 slot some) (eq-eqb (g.key slot) key (sym keys)) (eq-eqb (g.val slot) val (sym vals))
 
--- a node with a pair is spelled at its slot, and its two children are spelled
+-- a node with a pair is spelled at its slot if its two children are spelled
 pub node_spells : (g : Graph) (child slot key val : ℕ) (left right : NamedTree) (result here low high : Bool)
     → here ≡ (eqb child slot && ltb 0 slot && eqb (g.key slot) key && eqb (g.val slot) val)
     → low ≡ spells g (g.child Left slot) left → high ≡ spells g (g.child Right slot) right → result ≡ (here && low && high)

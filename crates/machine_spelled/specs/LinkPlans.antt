@@ -1,4 +1,4 @@
--- The plain links that an update changes, as the code keeps them, and what they leave to be done.
+-- The plain links that an update changes, as the code keeps them, and what is to be done to them after the raise.
 use Rattle.std.specs.Prelude.{List, [], ◌∷◌, Option, Some, None}
 use Rattle.key_map.specs.declared.update.Change.{Change}
 use Rattle.key_map.specs.declared.update.Change.TheVariants.{Put, Remove}

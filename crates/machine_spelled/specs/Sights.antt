@@ -16,7 +16,7 @@ use Rattle.core_events.specs.SpelledNow.{graph_now, tree_from}
 abbrev pub memory_of : Sight → Memory
 memory_of s = memory s.layout.now s.words.now
 
--- the entries that have a number beside those that have one in the table
+-- the entries that have a number besides those that have one in the table
 abbrev pub more_of : Sight → List ℕ
 more_of s = s.pending.now ++ (listed_entry s.left ++ listed_entry s.right)
 

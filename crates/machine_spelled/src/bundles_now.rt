@@ -1,4 +1,4 @@
-// The entries of a bundle, and which of them a number selects, as the words have them.
+// The entries of a bundle as the words hold them, and which of them a number selects.
 ghost use Rattle.std.specs.Prelude.{◌≡◌, ◌+◌, ◌++◌, nat_le, IfOk, OnOk};
 ghost use Rattle.index_words.specs.Words.{memory};
 ghost use Rattle.index_words.specs.declared.word.Part.TheVariants.{Next as NextPart};
@@ -14,7 +14,7 @@ use core_events::reads::held;
 use index_words::{Field, Items, Layout, NoMemory, Part, Side, View, Word};
 use std::alloc::Global;
 
-/// Puts an entry and those behind it, at most so many, behind the list.
+/// Appends an entry and at most `behind` entries after it to the list.
 pub(crate) fn push_entries(
     sight: &Sight<'_>,
     behind: u64,
@@ -38,7 +38,7 @@ pub(crate) fn push_entries(
     )
 }
 
-/// The entries behind this one.
+/// The entries after this one.
 pub fn entries_behind(
     alloc: Global,
     layout: &Layout,
@@ -61,7 +61,7 @@ pub fn entries_behind(
     Ok(back)
 }
 
-/// Whether an update with this raise shows a number of at most this one.
+/// Whether the update's raised number is at most this one: false before its raise.
 fn is_shown_by(raised: Option<u64>, number: u64) -> bool
     ensures { result ≡ nat_le (shown raised) number }
 {
@@ -94,7 +94,7 @@ fn is_numbered_by(sight: &Sight<'_>, entry: u64, number: u64) -> bool
     }
 }
 
-/// The entry that a number selects from this one on, among at most so many behind it, 0 for none.
+/// The entry that a number selects from this one on, among at most `behind` entries after it, 0 for none.
 fn selected_from(sight: &Sight<'_>, behind: u64, entry: u64, number: u64) -> u64
     ensures { result ≡ select (entry_number (memory_of sight.now) sight.now.views.now) number (entries_from (behind + 1) sight.now.layout.now.entries (λ e. memory_of sight.now (EntryWord NextPart e)) entry) }
 {

@@ -12,7 +12,7 @@ use core_events::searches::is_between;
 use core_trees::{Link as TreeLink, ROOT};
 use index_words::{Change, Field, Link, LinkSource, Side, Update, View};
 
-/// Whether the link was found by a search with this tag, and with the key between those of the turns.
+/// Whether a search found the link with this tag, and with the key between those of its turns.
 fn is_gap_found(key: u64, tag: u64, source: LinkSource) -> bool
     ensures { result ≡ gap_found key tag source }
 {
@@ -26,7 +26,7 @@ fn is_gap_found(key: u64, tag: u64, source: LinkSource) -> bool
     }
 }
 
-/// Whether it is the null link at this place, found so.
+/// Whether this is the null link at this place, found by such a search.
 fn is_gap_link(at: TreeLink, key: u64, tag: u64, link: Link) -> bool
     ensures { result ≡ gap_link at.node at.side key tag link }
 {
@@ -42,7 +42,7 @@ fn remembers_gap(links: &[Link], at: TreeLink, key: u64, tag: u64) -> bool
     links.iter().any(|link| is_gap_link(at, key, tag, *link))
 }
 
-/// Whether the plain link is null, and the seat's search ended there, with the tag that it has.
+/// Whether the plain link is null, and the seat's search ended there with the tag that the link has now.
 fn has_gap(sight: &Sight<'_>, view: &View, key: u64, at: TreeLink) -> bool
     ensures { result ≡ gap_there (memory_of sight.now) view.now key at.node at.side }
 {
@@ -66,7 +66,7 @@ fn inserts(sight: &Sight<'_>, tree: Subtree, change: Change, key: u64) -> bool
     }
 }
 
-/// Whether a key that is not in the tree is put at such a link.
+/// Whether a key that is not in the tree is put at such a null link.
 pub(crate) fn finds_gap(sight: &Sight<'_>, view: &View, tree: Subtree, update: Update) -> bool
     ensures { result ≡ gap_needed (memory_of sight.now) view.now update (seen sight.now tree) }
 {

@@ -1,6 +1,6 @@
-//! The tree in the words, read and tested by code: the nodes of the tree at the stamp, which entry of a bundle a number
-//! selects, whether the words spell the tree after an update, and what a raise moves. It is a part of the machine of
-//! `core_rule`: no crate calls it but those of the machine.
+//! The tree as the words hold it, read and tested by code: the nodes of the tree at the stamp, which entry of a bundle
+//! a number selects, whether the words spell the tree after an update, and what a raise moves. It is a part of the
+//! machine of `core_rule`: only the crates of the machine call it.
 #![tactic(auto)]
 
 pub mod bundles_now;

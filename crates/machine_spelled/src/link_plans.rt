@@ -1,5 +1,5 @@
-// The plain links that an update changes: the one at which the search for its key ends, and with two children, where the
-// successor is not the removed node's child, the link to it.
+// The plain links that an update changes: the one at which the search for its key ends and, if it removes a node
+// with two children whose successor is not its own child, the link to the successor.
 ghost use Rattle.std.specs.Prelude.{◌≡◌, ◌++◌, ◌∷◌, ◌&&◌, ◌==◌, [], IfOk, OnOk};
 ghost use Rattle.std.specs.List.{list_all};
 ghost use Rattle.index_words.specs.declared.side.Side.TheVariants.{Right};
@@ -27,7 +27,7 @@ use std::alloc::Global;
 #[derive(Clone, Copy)]
 struct FirstNode {
     slot: u32,
-    /// The node to whose left it hangs.
+    /// The node whose left child it is.
     parent: u32,
     /// Its right child, 0 for none.
     rest: u32,
@@ -48,7 +48,7 @@ pub(crate) struct LinkPlan {
     pub far: Option<FarLink>,
 }
 
-/// The first node of the tree with this top and these children, which hangs to the left of `parent`.
+/// The first node of the tree with this top and these children, which is the left child of `parent`.
 fn first_node(sight: &Sight<'_>, parent: u32, slot: u32, left: Subtree, right: Subtree) -> FirstNode
     ensures slot { result.slot ≡ first_slot_below slot (seen sight.now left) }
     ensures parent { result.parent ≡ first_parent parent slot (seen sight.now left) }
@@ -76,7 +76,7 @@ fn unset_at(sight: &Sight<'_>, node: u32, side: Side, child: u64) -> UnsetLink
     }
 }
 
-/// The link to the successor of the top of a tree, where the top has two children and the successor is none of them.
+/// The link to the successor of the top of a tree, if the top has two children and the successor is neither of them.
 fn far_link(sight: &Sight<'_>, tree: Subtree) -> Option<FarLink>
     ensures link { far_unset result ≡ removed_links (memory_of sight.now) (seen sight.now tree) }
     ensures unlinking { far_unlinking result ≡ removed_successor (seen sight.now tree) }
@@ -97,8 +97,8 @@ fn far_link(sight: &Sight<'_>, tree: Subtree) -> Option<FarLink>
     })
 }
 
-/// The links that an update changes in this tree, where `slot` is the child after it of the link at which the search for
-/// its key ends.
+/// The links that an update changes in this tree. The search for the update's key ends at a link whose child after the
+/// update is `slot`.
 pub(crate) fn link_plan(sight: &Sight<'_>, tree: Subtree, update: Update, slot: u64) -> LinkPlan
     ensures { planned_move update.change result ≡ move_by (memory_of sight.now) update.change update.key slot (seen sight.now tree) }
 {
@@ -179,7 +179,7 @@ fn push_far(far: Option<FarLink>, unset: &mut Items<UnsetLink>) -> Result<(), No
     }
 }
 
-/// Puts the link behind the list, where it is to be null.
+/// Appends the tag of the link to the list if the link is to be null.
 fn push_null(link: UnsetLink, owed: &mut Items<OwedTag>) -> Result<(), NoMemory>
     ensures { OnOk result (owed.new ≡ owed.old ++ made_null (link ∷ [])) }
 {
@@ -204,7 +204,7 @@ fn owed_list(alloc: Global, change: Change, links: &[UnsetLink]) -> Result<Items
     Ok(owed)
 }
 
-/// What the links leave to be done.
+/// What is to be done to the links after the raise.
 pub(crate) fn plain_move(
     alloc: Global,
     change: Change,

@@ -12,7 +12,7 @@ use core_events::reads::held;
 use index_words::{Field, Items, Layout, NoMemory, Part, Side, TreeNode, View, Word};
 use std::alloc::Global;
 
-/// The words and views of a table, and entries that are to have a number beside those that have one: the pending
+/// The words and views of a table, and entries that are to have a number besides those that have one: the pending
 /// ones of an update that is to raise, and the heads of a new node's bundles, where 0 is none.
 #[derive(Clone, Copy)]
 pub(crate) struct Sight<'a> {
@@ -87,7 +87,7 @@ pub(crate) fn child_of(sight: &Sight<'_>, side: Side, node: u64) -> u64
     }
 }
 
-/// The child of a link as the table has it.
+/// The child of a link in the table, without the entries that are only to have a number.
 pub(crate) fn old_child(sight: &Sight<'_>, side: Side, node: u64) -> u64
     ensures { result ≡ child_now (memory_of sight.now) sight.now.views.now [] side node }
 {
@@ -102,7 +102,7 @@ pub(crate) fn old_child(sight: &Sight<'_>, side: Side, node: u64) -> u64
     child_of(&table, side, node)
 }
 
-/// The node slot with this number, where the table has one.
+/// The node slot with this number, if the table has one.
 pub(crate) fn slot_of(layout: &Layout, node: u64) -> Option<u32>
     ensures { result ≡ cond (nat_lt 0 node && nat_le node layout.now.nodes) (Some node) None }
 {
@@ -126,7 +126,7 @@ pub(crate) fn top_of(sight: &Sight<'_>, depth: u64, child: u64) -> u32
     }
 }
 
-/// Puts the nodes of the tree from a child on behind the list, in the order of their keys.
+/// Appends the nodes of the tree from a child on to the list, in the order of their keys.
 fn push_nodes(
     sight: &Sight<'_>,
     depth: u64,

@@ -82,7 +82,7 @@ pub(crate) fn spells_put(
     }
 }
 
-/// The first pair of a tree. None exactly where the tree is empty.
+/// The first pair of a tree. None exactly if the tree is empty.
 fn first_pair(sight: &Sight<'_>, tree: Subtree) -> Option<Pair>
     ensures { result ≡ first_pair_of (seen sight.now tree) }
 {
@@ -111,7 +111,7 @@ fn spells_rest(sight: &Sight<'_>, tree: Subtree, child: u64) -> bool
     child == tree.child && low && high
 }
 
-/// Whether what stands in the place of a removed node with these two children is spelled.
+/// Whether the words spell what replaces a removed node with these two children.
 fn spells_joined(sight: &Sight<'_>, left: Subtree, right: Subtree, child: u64, slot: u64) -> bool
     ensures { result ≡ spells (graph_seen sight.now) child (joined slot (seen sight.now left) (seen sight.now right)) }
 {
@@ -129,7 +129,7 @@ fn spells_joined(sight: &Sight<'_>, left: Subtree, right: Subtree, child: u64, s
     }
 }
 
-/// Whether the tree is spelled without the key, with this slot where a new node is needed.
+/// Whether the tree is spelled without the key, with this slot if a new node is needed.
 #[tactic(auto, using(crate::proofs::SeenTrees::remove_low, crate::proofs::SeenTrees::remove_high, crate::proofs::SeenTrees::remove_same))]
 pub(crate) fn spells_removal(
     sight: &Sight<'_>,

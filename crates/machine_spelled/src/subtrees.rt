@@ -6,7 +6,7 @@ ghost use Rattle.machine_spelled.specs.Sights.{seen, IsTop};
 use crate::spelled_now::{Sight, field_of, old_child, slot_of};
 use index_words::{Field, Side};
 
-/// The tree from a child on, followed so many links down.
+/// The tree from a child on, followed at most so many links down.
 #[derive(Clone, Copy)]
 pub(crate) struct Subtree {
     pub depth: u64,
@@ -23,7 +23,7 @@ pub(crate) struct SeenNode {
     pub right: Subtree,
 }
 
-/// The node at the top of a tree. None exactly where the tree is empty.
+/// The node at the top of a tree. None exactly if the tree is empty.
 pub(crate) fn top(sight: &Sight<'_>, tree: Subtree) -> Option<SeenNode>
     ensures { MatchOption result (seen sight.now tree ≡ Null) (IsTop sight.now tree) }
 {

@@ -16,7 +16,7 @@ use core_events::reads::held;
 use index_words::{Field, Items, Layout, NoMemory, Side, Update, View, Word};
 use std::alloc::Global;
 
-/// The slot with this number, where it is one of these.
+/// The slot with this number, if it is one of these.
 fn own_slot(slots: &[u32], number: u64) -> Option<u32>
     ensures { result ≡ cond (has number slots.now) (Some number) None }
 {

@@ -40,7 +40,7 @@ pub(crate) struct Heads {
     pub right: u64,
 }
 
-/// The link at which the search for a key ends, in a tree that hangs at the link `at`.
+/// The link at which the search for a key ends, in a tree whose top is the child of the link `at`.
 pub(crate) fn end_link(sight: &Sight<'_>, tree: Subtree, key: u64, at: Link) -> Link
     ensures node { result.node ≡ end_node key at.node (seen sight.now tree) }
     ensures side { result.side ≡ end_side key at.side (seen sight.now tree) }
@@ -230,7 +230,7 @@ fn spells_after(sight: &Sight<'_>, tree: Subtree, slot: u64, update: Update) -> 
     }
 }
 
-/// The child of the link at which the search for a key ends: the slot of the new node, where there is one.
+/// The child of the link at which the search for the key ends: the slot of the new node, if there is one.
 fn slot_after(sight: &Sight<'_>, tree: Subtree, key: u64) -> u64
     ensures { result ≡ child_now (memory_of sight.now) sight.now.views.now (more_of sight.now) (end_side key Right (seen sight.now tree)) (end_node key 0 (seen sight.now tree)) }
 {
@@ -242,7 +242,7 @@ fn slot_after(sight: &Sight<'_>, tree: Subtree, key: u64) -> u64
     child_of(sight, link.side, u64::from(link.node))
 }
 
-/// What a raise moves by name, before any list is made.
+/// What a raise moves, by the names of the slots and links, before any list is made.
 #[derive(Clone, Copy)]
 pub(crate) struct Plan {
     /// The child of the link at which the search for the key ends.
@@ -274,7 +274,7 @@ pub(crate) fn plan_of(sight: &Sight<'_>, tree: Subtree, update: Update) -> Plan
     }
 }
 
-/// A key has 64 bits, as each number of its type.
+/// A key has 64 bits, like every number of its type.
 fn is_key(key: u64) -> bool
     ensures { result ≡ fits_key key }
 {
@@ -282,8 +282,9 @@ fn is_key(key: u64) -> bool
 }
 
 /// Whether the pending entries of the view and those of a new node, with the next number, spell the tree after the
-/// update, the seat has locked each node that is taken out and that of each plain link that is to be set, a new node has
-/// its children in its plain links, and a key that is not in the tree is put at a null link that the seat's search found.
+/// update. Besides, the seat has locked each node that is taken out and the node of each plain link that is to be set,
+/// a new node has its children in its plain links, and a key that is not in the tree is put at a null link that the
+/// seat's search found.
 #[tactic(auto, using(crate::proofs::TreeTests::step_is))]
 pub fn is_tree_step(
     layout: &Layout,

@@ -1,4 +1,4 @@
--- The views after a split, as the code makes them: the new view is put behind the others first.
+-- The views after a split, as the code makes them: the new view is first put after the others.
 pub mod SplitViews
--- What the met needs of a step say of its seat.
+-- What the needs of a step, when they are met, say of its seat.
 pub mod StepMet

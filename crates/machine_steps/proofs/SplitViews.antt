@@ -1,4 +1,4 @@
--- The views after a split, as the code makes them: the new view is put behind the others first.
+-- The views after a split, as the code makes them: the new view is first put after the others.
 use Rattle.std.proofs.Common.{◌≡◌, ℕ, ◌<◌, List, [], ◌∷◌, ◌++◌, length, set, get_or, ap, ◌∙◌, Some}
 use Rattle.std.specs.List.{slice_get}
 use Rattle.std.proofs.lemmas.List.{set-append_left, get_or_append_left}

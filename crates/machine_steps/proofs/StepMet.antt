@@ -1,4 +1,4 @@
--- What the met needs of a step say of its seat.
+-- What the needs of a step, when they are met, say of its seat.
 use Rattle.std.proofs.Common.{◌≡◌, ℕ, ◌<◌, ◌≤◌, List, length, true, refl, subst, Some}
 use Rattle.std.specs.List.{slice_get}
 use Rattle.index_words.specs.declared.layout.Layout.{Layout}

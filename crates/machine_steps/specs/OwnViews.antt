@@ -18,7 +18,7 @@ use Rattle.machine_needs.specs.declared.step.Load.TheVariants as load
 use Rattle.machine_needs.specs.declared.step.Store.{Store}
 use Rattle.machine_needs.specs.declared.step.Store.TheVariants as store
 
--- for a table of so many passes, whose words are `m`
+-- the view after a load, in a table of so many passes whose words are `m`
 abbrev pub loaded : Load → ℕ → Memory → View → View
 loaded (load.Section pass) passes m v = looked_by passes v pass (m (Section pass))
 loaded (load.Announced pass) passes m v = ann_loaded v pass (m (Announced pass))

@@ -1,5 +1,5 @@
-//! The views of a table after a step, and the word that it stores. Which step an allowed event makes, `machine_needs`
-//! says. It is a part of the machine of `core_rule`: no crate calls it but those of the machine.
+//! The views of a table after a step, and the word that it stores. `machine_needs` says which step an allowed event
+//! makes. It is a part of the machine of `core_rule`: only the crates of the machine call it.
 #![tactic(auto)]
 
 mod own_views;

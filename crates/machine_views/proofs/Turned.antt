@@ -1,4 +1,4 @@
--- Where a search stands at a node, that is the node of the link at which it stands.
+-- A search stands at a node, which is the node of the link at which it stands.
 use Rattle.std.proofs.Common.{◌≡◌, ℕ, true, eqb, ap, ◌∙◌, sym, Option, Some}
 use Rattle.std.proofs.lemmas.Bool.{and_parts, eqb-true}
 use Rattle.index_words.specs.declared.side.Side.{Side}

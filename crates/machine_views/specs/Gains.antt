@@ -5,7 +5,7 @@ use Rattle.machine_views.specs.declared.moves.Gained.{Gained}
 use Rattle.core_events.specs.declared.tree_move.TreeMove.{TreeMove}
 use Rattle.machine_views.specs.declared.updates.Longer.{Longer}
 
--- what is gained from the other view is right where this is the view after the join
+-- the view with this gain; the gain is right if this is the view after the join
 abbrev pub with_gain : View → Gained → View
 with_gain v gain = record v {
   to_give = gain.to_give;

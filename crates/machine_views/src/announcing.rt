@@ -1,10 +1,10 @@
-// The view of a seat after an announcement, and after a look at another one's.
+// The view of a seat after an announcement, and after a look at the announcement of another pass.
 ghost use Rattle.std.specs.Prelude.{◌≡◌, OnOk, OnErr};
 ghost use Rattle.core_events.specs.Announcing.{announced_view, smaller as smaller_of, lowered as lowered_by, ann_loaded};
 
 use index_words::{NoMemory, View};
 
-/// The view after a store of this value in its announcement.
+/// The view after a store of this value as its announcement.
 pub fn announce(view: &mut View, value: u64)
     ensures { view.new ≡ announced_view view.old value }
 {

@@ -71,7 +71,7 @@ fn end_at(nexts: &mut [HeldNext], entry: u32)
     }
 }
 
-/// What is known of entries, where the bundle ends with this one and these are cut off.
+/// What is known of entries after a cut: the bundle ends with this entry, and these are cut off.
 fn forget_entries(alloc: Global, held: &mut Held, entry: u32, back: &[u32])
     ensures { held.new ≡ record held.old { nexts = nexts_cut entry back.now held.old.nexts } }
 {
@@ -81,7 +81,7 @@ fn forget_entries(alloc: Global, held: &mut Held, entry: u32, back: &[u32])
     held.nexts = Items::from_vec(nexts);
 }
 
-/// The view after a cut behind this entry, where `back` are the entries behind it. After a refusal it is unchanged.
+/// The view after a cut after this entry, where `back` are the entries after it. After a refusal it is unchanged.
 pub fn cut(alloc: Global, view: &mut View, entry: u32, back: &[u32]) -> Result<(), NoMemory>
     ensures ok { OnOk result (view.new ≡ cut_view view.old entry back.now) }
     ensures err { OnErr result (view.new ≡ view.old) }

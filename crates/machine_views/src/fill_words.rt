@@ -86,7 +86,7 @@ fn add_entry_zeros(filled: &mut Items<Filled>, entry: u32) -> Result<(), NoMemor
     ])
 }
 
-/// Adds the words of a word's slot with 0 where the slot was never used.
+/// Adds the words of a word's slot, each with the value 0, if the slot was never used.
 fn add_zeros(filled: &mut Items<Filled>, unused: &Slots, word: Word) -> Result<(), NoMemory>
     ensures { OnOk result (filled.new ≡ filled.old ++ zeros_of unused.now word) }
 {
@@ -110,7 +110,7 @@ fn known_words(alloc: Global, view: &View, word: Word) -> Result<Items<Filled>, 
     Ok(known)
 }
 
-/// The words that were filled, with one more.
+/// The filled words, with one more.
 fn with_word(filled: Items<Filled>, word: Word, value: u64) -> Result<Items<Filled>, NoMemory>
     ensures { IfOk result (λ fs. fs ≡ filled_with filled word value) }
 {
@@ -121,7 +121,7 @@ fn with_word(filled: Items<Filled>, word: Word, value: u64) -> Result<Items<Fill
     Ok(words)
 }
 
-/// Takes the slot of this word out.
+/// Takes the slot of this word out of the unused ones.
 fn drop_slot(alloc: Global, unused: &mut Slots, word: Word)
     ensures { unused.new ≡ used_slots word unused.old }
 {

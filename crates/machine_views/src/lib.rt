@@ -1,5 +1,5 @@
-//! The view of a seat after each kind of event, by code. It is a part of the machine of `core_rule`: no crate calls it
-//! but those of the machine.
+//! The view of a seat after each kind of event, by code. It is a part of the machine of `core_rule`: only the crates of
+//! the machine call it.
 #![tactic(auto)]
 
 pub mod announcing;

@@ -12,7 +12,7 @@ use index_words::{
 };
 use std::alloc::Global;
 
-/// One more, but at the last value as many.
+/// One more, but at the largest value the same.
 pub(crate) fn risen(count: u64) -> u64
     ensures { result ≡ risen_count count }
 {
@@ -138,7 +138,7 @@ fn find_head(nodes: &mut [HeldNode], node: u32, side: Side, entry: u64)
     }
 }
 
-/// The locked nodes, after a load of a head that found this entry.
+/// The locked nodes after a load of a head that found this entry.
 fn hold_found(alloc: Global, held: &mut Held, node: u32, side: Side, entry: u64)
     ensures { held.new ≡ record held.old { nodes = map (found_at node side entry) held.old.nodes } }
 {
@@ -274,7 +274,7 @@ fn is_watching(view: &View) -> bool
     }
 }
 
-/// Whether a load that found `stamp` meets an entry that another seat has pending.
+/// Whether a load that found `stamp` meets a pending entry of another seat.
 fn meets_pending(view: &View, entry: u32, stamp: u64) -> bool
     ensures { result ≡ meets_other view.now entry stamp }
 {

@@ -29,7 +29,7 @@ fn just_locked(node: u32) -> HeldNode
     }
 }
 
-/// Where a seat stands that has locked a node and has this section number.
+/// The place of a seat with this section number after it has locked a node.
 fn place_after_lock(section: Option<u64>, node: u32, place: Place) -> Place
     ensures { result ≡ place_locked section node place }
 {
@@ -39,7 +39,7 @@ fn place_after_lock(section: Option<u64>, node: u32, place: Place) -> Place
     }
 }
 
-/// At no entry, where the place is in a bundle of the node.
+/// The place, at no entry if it is in a bundle of the node.
 fn off_entry(node: u32, place: Place) -> Place
     ensures { result ≡ place_locked Nothing node place }
 {
@@ -89,8 +89,8 @@ fn meet_lock(view: &mut View, own: u64, found: u64)
     }
 }
 
-/// The view after a try of this node's lock that found `found`, where `own` names the seat's pass. After a refusal it
-/// is unchanged.
+/// The view after a try of this node's lock that found `found`, where `own` is the lock value of the seat's pass.
+/// After a refusal it is unchanged.
 pub fn try_lock(view: &mut View, node: u32, own: u64, found: u64) -> Result<(), NoMemory>
     ensures ok { OnOk result (view.new ≡ tried view.old node own found) }
     ensures err { OnErr result (view.new ≡ view.old) }
@@ -134,7 +134,7 @@ fn end_update(alloc: Global, update: &mut Updating, locked: &Items<HeldNode>)
     }
 }
 
-/// The view after this node's lock was given back.
+/// The view after this node was unlocked.
 pub fn unlock(alloc: Global, view: &mut View, node: u32)
     ensures { view.new ≡ unlocked_view view.old node }
 {
@@ -169,7 +169,7 @@ fn hold_mark(alloc: Global, view: &mut View, node: u32, mark: u64)
     view.held.nodes = Items::from_vec(nodes);
 }
 
-/// Whether a mark that is found on the node counts.
+/// Whether the node is one whose mark counts if it is found.
 fn may_count(view: &View, node: u32) -> bool
     ensures { result ≡ mark_counts view.now node }
 {
@@ -220,7 +220,7 @@ fn know_key(nodes: &mut [HeldNode], node: u32, key: u64)
     }
 }
 
-/// Where a seat stands that has found this number as the node's key.
+/// The place of a seat that has found this number as the node's key.
 fn place_with_key(place: Place, node: u32, key: u64) -> Place
     ensures { result ≡ key_found node key place }
 {

@@ -34,7 +34,7 @@ pub fn enter(alloc: Global, view: &mut View, passes: u32, word: u64) -> Result<(
     Ok(())
 }
 
-/// The view outside of its section: what it read there is gone, and it works at no node that it has brought in.
+/// The view outside of its section: what it read there is dropped, and it works on no node that it has brought in.
 pub fn leave(alloc: Global, view: &mut View, word: u64)
     ensures { view.new ≡ left view.old word }
 {
@@ -65,8 +65,8 @@ fn look_waiting(view: &mut View, pass: u32, found: u64) -> Result<(), NoMemory>
     look_at(&mut view.update.waiting, pass, found)
 }
 
-/// The view after a look that found this number in the section word of another pass: for its slots, or with locks held
-/// for the wait of its removal. After a refusal the view is unchanged.
+/// The view after a look that found this number in the section word of another pass: for its slots or, if it holds
+/// locks, for the wait of its removal. After a refusal the view is unchanged.
 pub fn look(
     alloc: Global,
     view: &mut View,
@@ -92,8 +92,8 @@ fn first_nodes(alloc: Global, nodes: &[u32], count: u64) -> Result<Items<u32>, N
     Ok(first)
 }
 
-/// The view that is split off: it has no number and has seen what this one has. So many of the first free
-/// nodes are to move to it.
+/// The view that is split off: it has no number and has seen what this one has. So many of the first free nodes are to
+/// move to it.
 pub fn split_off(alloc: Global, view: &View, nodes: u64) -> Result<View, NoMemory>
     requires { nodes ≤ length view.now.free.nodes }
     ensures { IfOk result (λ part. part ≡ split_right view.now nodes) }

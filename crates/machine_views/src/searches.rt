@@ -123,7 +123,7 @@ fn tag_each(links: &mut [Link], node: u32, side: Side, tag: u64)
     }
 }
 
-/// The tag is kept with each link of this kind that has none yet.
+/// Sets the tag of each link of this kind that has none yet.
 pub(crate) fn tag_links(alloc: Global, reading: &mut Reading, node: u32, side: Side, tag: u64)
     ensures { reading.new ≡ record reading.old { links = map (tagged_link node side tag) reading.old.links } }
 {
@@ -202,7 +202,7 @@ fn knows_tag(nodes: &[HeldNode], node: u32, side: Side, tag: u64) -> bool
     nodes.iter().any(|held| held.node == node && is_known(side_of(*held, side).tag, tag))
 }
 
-/// Whether a link that another seat has set since is found.
+/// Whether the found child shows that another seat has set the link since the search.
 pub(crate) fn link_moved(view: &View, node: u32, side: Side, child: u64) -> bool
     ensures { result ≡ counts_link view.now node side child }
 {
@@ -210,7 +210,7 @@ pub(crate) fn link_moved(view: &View, node: u32, side: Side, child: u64) -> bool
         && !knows_link(view.held.nodes.as_slice(), node, side, child)
 }
 
-/// Whether a tag that another seat has raised since is found.
+/// Whether the found tag shows that another seat has raised it since the search.
 pub(crate) fn tag_moved(view: &View, node: u32, side: Side, tag: u64) -> bool
     ensures { result ≡ counts_tag view.now node side tag }
 {

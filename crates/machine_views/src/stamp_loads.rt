@@ -7,7 +7,7 @@ use crate::loads::risen;
 use crate::moves::go_nowhere;
 use index_words::{Items, Reading, TreeNode, Update, View};
 
-/// What the seat reads from a load of the stamp on, that found this number and these nodes of the tree at it.
+/// Sets what the seat reads after a load of the stamp that found this number, with these nodes of the tree at it.
 fn read_at(reading: &mut Reading, stamp: u64, fixes: bool, nodes: Items<TreeNode>)
     ensures { reading.new ≡ record reading.old { section = Some stamp; opened = cond fixes (Some stamp) Nothing; tree = nodes; least = Some stamp; looked = [] } }
 {
@@ -18,7 +18,7 @@ fn read_at(reading: &mut Reading, stamp: u64, fixes: bool, nodes: Items<TreeNode
     reading.looked.clear();
 }
 
-/// Stands nowhere, and reads at the number from then on, where the seat has announced.
+/// Stands nowhere, and reads at the number from then on if the seat has announced.
 fn begin_reading(view: &mut View, stamp: u64, fixes: bool, nodes: Items<TreeNode>)
     ensures { view.new ≡ record view.old { reading = stamp_reading view.old.reading (has_announced view.old) stamp fixes nodes } }
 {
@@ -29,7 +29,7 @@ fn begin_reading(view: &mut View, stamp: u64, fixes: bool, nodes: Items<TreeNode
 }
 
 /// The view after a load of the stamp. `known` is the whole history, and `nodes` are those of the tree, which the seat
-/// reads from then on where it has announced.
+/// reads from then on if it has announced.
 pub fn load_stamp(
     view: &mut View,
     known: Items<Update>,

@@ -27,7 +27,7 @@ read_both (Some before) (Some between) None xs ys first second = second
 read_both (Some before) None now xs ys first second = absurd first
 read_both None between now xs ys first second = subst (λ o. IsRead o now ys) first second
 
--- the length after one piece more
+-- the length after one more piece
 pub length-piece : (bytes buf : List ℕ) (n : ℕ) → n ≤ length buf → length (bytes ++ take n buf) ≡ length bytes + n
 length-piece bytes buf n within = rw (length-append, length-take-le) refl
 

@@ -1,8 +1,8 @@
--- What a source gives and a sink takes, by the bytes that are left or were taken before and after; None where it tells
--- nothing. And counts of faults, which never fall and stay at the last value of a u64.
+-- What a source gives and a sink takes, by the bytes that are left or were taken before and after; None where these
+-- are not reported. And counts of faults, which never fall and stay at the last value of a u64.
 use Rattle.std.specs.Prelude.{◌≡◌, ℕ, ◌+◌, ◌-◌, ◌^◌, ◌<◌, ◌≤◌, ◌↔◌, min, List, [], ◌++◌, Option, Some, None, length, take}
 
--- the count after one fault more
+-- the count after one more fault
 abbrev pub one_more : ℕ → ℕ
 one_more count = min (count + 1) (2 ^ 64 - 1)
 

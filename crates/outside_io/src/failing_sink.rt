@@ -1,4 +1,4 @@
-// A sink that fails where it is told to.
+// A sink that fails at given writes.
 ghost use Rattle.std.specs.Prelude.{◌≡◌, ◌<◌, ◌≤◌, ◌↔◌, ◌⊎◌, Some, None, [], length, Contains, IsErr, IfOk, IfSome};
 ghost use Rattle.outside_io.specs.Streams.{one_more};
 ghost use Rattle.outside_io.specs.Failing.{SinkPlan, sink_plan, let_in, after_piece};
@@ -81,7 +81,7 @@ impl FailingSink {
     }
 }
 
-// How many of so many bytes are let in. None where a write of them fails for want of room.
+// How many of so many bytes are let in. None if a write of them fails for lack of room.
 fn let_in(step: Option<usize>, room: usize, offered: usize) -> Option<usize>
     ensures { result ≡ let_in step room offered }
 {

@@ -1,4 +1,4 @@
-// A source that fails where it is told to.
+// A source that fails at given reads.
 ghost use Rattle.std.specs.Prelude.{◌≡◌, ◌<◌, ◌≤◌, ◌↔◌, Some, length, take, min, Contains, IsErr, IfOk};
 ghost use Rattle.outside_io.specs.Streams.{one_more, EndsExactly};
 ghost use Rattle.outside_io.specs.Failing.{Plan, plan, after_read};

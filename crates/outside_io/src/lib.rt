@@ -1,7 +1,6 @@
-//! What is outside the program: bytes that come in and bytes that go out, behind two traits whose clauses
-//! say which bytes, where that can be told, and count the faults. The layers above read all input with `read_all` and
-//! write each line with `write_all`; `main` alone makes the standard streams, and the tests take sources and sinks in
-//! memory.
+//! What is outside the program: bytes that come in and bytes that go out, as two traits whose clauses say which
+//! bytes, where they are known, and count the faults. The layers above read all input with `read_all` and write each
+//! line with `write_all`; `main` alone makes the standard streams, and the tests use sources and sinks in memory.
 #![tactic(auto)]
 
 mod failed;

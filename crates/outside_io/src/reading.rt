@@ -42,8 +42,8 @@ impl From<AllocError> for ReadError {
     }
 }
 
-/// Reads to the end of input, or to the first fault. After an error the source has lost just the bytes that
-/// it gave, at most 65,536 more than the limit.
+/// Reads to the end of input, or to the first fault. After an error the source has lost exactly the bytes that it
+/// gave, at most 65,536 more than the limit.
 pub fn read_all<S: Source>(
     alloc: Global,
     source: &mut S,

@@ -6,13 +6,13 @@ use crate::Failed;
 
 /// Takes bytes piece by piece, at least one of a piece that has any.
 pub trait Sink {
-    /// The bytes that were taken so far, where the sink tells them.
+    /// The bytes that were taken so far, if the sink reports them.
     ghost taken: { Self → Option (List ℕ) };
 
     /// How many writes have failed. The count stays at 2^64 - 1 once it is there.
     ghost faults: { Self → ℕ };
 
-    /// Takes the start of `bytes`, and answers how many it took.
+    /// Takes the start of `bytes`, and returns how many it took.
     fn write(&mut self, bytes: &[u8]) -> Result<usize, Failed>
         ensures most { IfOk result (λ n. n ≤ length bytes.now) }
         ensures some { IfOk result (λ n. 0 < length bytes.now → 0 < n) }
@@ -22,8 +22,8 @@ pub trait Sink {
         ensures unchanged { OnErr result (taken self.new ≡ taken self.old) }
         ensures counted { faults self.old ≤ faults self.new };
 
-    /// Whether it keeps small pieces back, so that nobody sees where one ends. Then a text of many lines may come as one
-    /// piece, which spares a call of the operating system for each long line.
+    /// Whether it buffers small pieces. Where one line ends and the next begins is not seen after a buffer, so such a
+    /// sink is given the lines of a text in one write, which saves a call of the operating system for each long line.
     fn is_buffered(&self) -> bool {
         false
     }

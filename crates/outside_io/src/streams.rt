@@ -49,8 +49,7 @@ pub fn write_counted<W: Write>(
     Err(Failed)
 }
 
-/// Hands on what a buffer has kept back; where it answers `Ok`, nothing is left there. A failure of the writer is
-/// counted.
+/// Writes out what a buffer has kept back; after `Ok` nothing is left in it. A failure of the writer is counted.
 pub fn flush_counted<W: Write + Drop>(
     output: &mut BufWriter<W>,
     faults: &mut u64,

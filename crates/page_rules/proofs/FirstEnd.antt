@@ -43,7 +43,7 @@ first_end-empty : (delimiter : List ℕ) (at : ℕ) → first_end delimiter at [
 unfolding first_end
 first_end-empty delimiter at = refl
 
--- the first delimiter ends where the search says that it begins, and its length further
+-- the first delimiter ends its own length after the place where the search says that it begins
 pub first_end-found : (delimiter : List ℕ) (at : ℕ) (text : List ℕ) (r : Option ℕ) → 0 < length delimiter → FindsNeedle text delimiter 0 r
     → first_end delimiter at text ≡ option_map (λ k. at + k + length delimiter) r
 first_end-found delimiter at text None some h =
@@ -63,7 +63,7 @@ pub no_group-without : (query : ListQuery) (name : List ℕ) → length query.de
 unfolding group_len
 no_group-without query name none = rw none refl
 
--- a name that is shorter than the prefix has no delimiter behind it
+-- a name that is shorter than the prefix has no delimiter after it
 pub no_group-short : (query : ListQuery) (name : List ℕ) → 0 < length query.delimiter → length name < length query.prefix → group_len query name ≡ None
 unfolding group_len
 no_group-short query name some short =
@@ -72,7 +72,7 @@ no_group-short query name some short =
     ∙ ap (first_end query.delimiter (length query.prefix)) (drop_all (length query.prefix) name (omega (arith, short)))
     ∙ first_end-empty query.delimiter (length query.prefix)
 
--- the common prefix ends with the delimiter that a search behind the prefix finds
+-- the common prefix ends with the delimiter that a search after the prefix finds
 pub group_len-found : (query : ListQuery) (name : List ℕ) (r : Option ℕ) → 0 < length query.delimiter
     → FindsNeedle (drop (length query.prefix) name) query.delimiter 0 r → group_len query name ≡ option_map (λ k. length query.prefix + k + length query.delimiter) r
 unfolding group_len

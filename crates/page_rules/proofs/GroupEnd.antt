@@ -8,7 +8,7 @@ use Rattle.page_rules.specs.GroupEnd.{AreAroundEnd}
 use Rattle.page_rules.proofs.NameOrder.{above_trans, begins_not_below}
 use Rattle.page_rules.proofs.Admission.{above_by_rank}
 
--- the name behind the end is not below the group, and does not begin with it
+-- the name after the end is not below the group, and does not begin with it
 outside_fails : (dir : List (List ℕ)) (group : List ℕ) (inside outside : ℕ) → Rises dir → AreAroundEnd dir group inside outside → outside < length dir → is_upto_prefix (name_at dir outside) group ≡ false
 outside_fails dir group inside outside rises around below =
     false_from_ne_true _ (λ passes. elim (or_cases _ _ passes) [

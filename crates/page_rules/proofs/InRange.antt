@@ -18,7 +18,7 @@ use Rattle.page_rules.proofs.NameOrder.{begins_take}
 use Rattle.page_rules.proofs.Groups.{rolled_up}
 use Rattle.page_rules.proofs.Listing.{rank_below}
 
--- where a whole text stands in another, a character begins, and one ends behind it
+-- where a whole text stands in another, a character begins at its start, and one ends at its end
 starts_char : (name text : List ℕ) (at : ℕ) → IsUtf8 text → 0 < length text → at + length text ≤ length name → take (length text) (drop at name) ≡ text → IsCharBoundary name at
 starts_char name text at utf8 some fits is =
     let first : get_or text 0 0 ≡ get_or name at 0 =

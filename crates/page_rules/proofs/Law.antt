@@ -18,7 +18,7 @@ use Rattle.page_rules.proofs.Groups.{group_same}
 use Rattle.page_rules.proofs.Listing.{is_behind, in_group}
 use Rattle.page_rules.proofs.Places.{entry_at}
 
--- the point behind some first entries is that of the last of them
+-- the point after some first entries is that of the last of them
 pub last_of_take : (dir : List (List ℕ)) (entries : List PageEntry) (k : ℕ) (e : PageEntry) → k < length entries → ((d : PageEntry) → get_or entries k d ≡ e)
     → last_point dir (take (suc k) entries) ≡ Some (entry_point dir e)
 last_of_take dir [] k e below is = absurd (omega arith)
@@ -72,7 +72,7 @@ module _ (dir : List (List ℕ)) (query : ListQuery) (m : List Pair) (rises : Ri
 
 -- ---- each once
 
--- the entry of a name that is behind another entry has a higher text
+-- the entry of a name that is after another entry has a higher text
 text_above : (dir : List (List ℕ)) (query : ListQuery) (p x : Pair) (o o' : Option ℕ) → group_len query (name_at dir p.key) ≡ o → group_len query (name_at dir x.key) ≡ o'
     → is_behind dir query (entry_by o p) x ≡ true → is_above (entry_text dir (entry_by o' x)) (entry_text dir (entry_by o p)) ≡ true
 text_above dir query p x None None h h' behind = behind

@@ -40,7 +40,7 @@ above_group : (dir : List (List ℕ)) (p : Pair) (len : ℕ) (name : List ℕ) �
 above_group dir p len name above =
     above_upto (group_text dir p.key len) (name_at dir p.key) name (begins_not_below (name_at dir p.key) (group_text dir p.key len) (begins_own len (name_at dir p.key))) above
 
--- a higher name is behind the entry exactly where it has another entry
+-- a higher name is after the entry exactly where it has another entry
 behind_by : (dir : List (List ℕ)) (query : ListQuery) (p x : Pair) (o o' : Option ℕ) → group_len query (name_at dir p.key) ≡ o → group_len query (name_at dir x.key) ≡ o'
     → is_above (name_at dir x.key) (name_at dir p.key) ≡ true → is_behind dir query (entry_by o p) x ≡ not (is_same_group dir (entry_by o' x) (entry_by o p))
 behind_by dir query p x None None h h' above = above
@@ -90,7 +90,7 @@ follow_from dir query p low (x ∷ t) rises lt r =
       follow_from dir query p (x.key + 1) t rises (omega arith) r.1,
     )
 
--- the entries of a list that begins with a listed pair: its entry, and those that are behind it
+-- the entries of a list that begins with a listed pair: its entry, and those that are after it
 pub listing_under : (dir : List (List ℕ)) (query : ListQuery) (p : Pair) (t : List Pair) → Rises dir → is_under dir query p ≡ true → RisesFrom (p.key + 1) t
     → listing dir query (p ∷ t) ≡ entry_of dir query p ∷ listing dir query (filter (is_behind dir query (entry_of dir query p)) t)
 unfolding listing

@@ -25,7 +25,7 @@ reversed Greater = refl
 pub upto_flips : (name text : List ℕ) → is_upto name text ≡ not (is_above name text)
 upto_flips name text = ap is_le (nat_list_cmp_total.antisymm name text) ∙ reversed (byte_order text name)
 
--- a name is below a group or begins with it exactly where it is not behind the group
+-- a name is below a group or begins with it exactly where it is not after the group
 pub group_flips : (name group : List ℕ) → is_upto_prefix name group ≡ not (is_above name group && not (begins_with name group))
 group_flips [] [] = refl
 group_flips (x ∷ name) [] = refl
@@ -59,7 +59,7 @@ above_own dir rank k rises below within =
           lt-ltb k (rank + 1) (omega arith) ∙ sym (ap not low)
     ]
 
--- behind a key of the listing
+-- after a key of the listing
 pub behind_key : (dir : List (List ℕ)) (query : ListQuery) (rank : ℕ) → Rises dir → rank < length dir → is_before (name_at dir rank) query.prefix ≡ false
     → GoesOnAt dir query (Some (AtKey (name_at dir rank))) (rank + 1)
 behind_key dir query rank rises below high = record {
@@ -70,7 +70,7 @@ behind_key dir query rank rises below high = record {
       above_own dir rank k rises below within ∙ absorbs (is_before name query.prefix) (not (is_above name own)) (λ low. ap not (low_not_above name own query.prefix high low));
 }
 
--- behind a common prefix of the listing
+-- after a common prefix of the listing
 pub behind_group : (dir : List (List ℕ)) (query : ListQuery) (group : List ℕ) (rank : ℕ) → rank ≤ length dir → is_before group query.prefix ≡ false
     → StandFirst (λ name. is_upto_prefix name group) dir rank → GoesOnAt dir query (Some (AtGroup group)) rank
 behind_group dir query group rank within high first = record {

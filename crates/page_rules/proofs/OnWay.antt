@@ -34,7 +34,7 @@ pairs_all rank low (x ∷ m) le r =
 pairs_skip : (rank : ℕ) (x : Pair) (m : List Pair) → x.key < rank → pairs_from rank (x ∷ m) ≡ pairs_from rank m
 pairs_skip rank x m lt = ap (λ b. cond b (x ∷ pairs_from rank m) (pairs_from rank m)) (lt-leb rank x.key lt)
 
--- the first pair from a rank on, and those behind it
+-- the first pair from a rank on, and those after it
 pub record BeginsFrom (rank low : ℕ) (m : List Pair) (p : Pair) : Type 0 where
   pub from : rank ≤ p.key
   pub least : low ≤ p.key
@@ -104,7 +104,7 @@ not_not : (b : Bool) → not (not b) ≡ b
 not_not true = refl
 not_not false = refl
 
--- a name under the prefix is admitted exactly from the rank on at which the listing goes on
+-- a name under the prefix is admitted exactly from the rank at which the listing goes on
 admitted_from : (dir : List (List ℕ)) (query : ListQuery) (point : Option TokenPoint) (rank : ℕ) (x : Pair) → GoesOnAt dir query point rank → is_under dir query x ≡ true
     → admits dir query point x ≡ nat_le rank x.key
 admitted_from dir query point rank x on under =
@@ -122,21 +122,21 @@ entries_from dir query point rank m on =
 
 -- ---- what is left from a rank on
 
--- from a listed pair on: its entry, and those behind it
+-- from a listed pair on: its entry, and those after it
 pub left_first : (dir : List (List ℕ)) (query : ListQuery) (rank : ℕ) (m : List Pair) (p : Pair) → Rises dir → IsMap m → first_from rank m ≡ Some p → is_under dir query p ≡ true
     → listing dir query (pairs_from rank m) ≡ entry_of dir query p ∷ listing dir query (filter (is_behind dir query (entry_of dir query p)) (pairs_from (p.key + 1) m))
 left_first dir query rank m p rises map h under =
     let begins = begins_from rank 0 m p map h in
     ap (listing dir query) begins.is ∙ listing_under dir query p (pairs_from (p.key + 1) m) rises under begins.rest
 
--- the rank at which the listing goes on behind a pair's entry is above its key
+-- the rank at which the listing goes on after a pair's entry is above its key
 pub next_above : (dir : List (List ℕ)) (query : ListQuery) (p : Pair) (next : ℕ) → Rises dir → is_under dir query p ≡ true
     → GoesOnAt dir query (Some (entry_point dir (entry_of dir query p))) next → p.key < next
 next_above dir query p next rises under on =
     leb-false next p.key (sym (admitted_from dir query (Some (entry_point dir (entry_of dir query p))) next p on under)
     ∙ not_behind dir query p p rises (omega arith) (rank_below dir query p under))
 
--- behind a listed pair: its entry, and the entries from the rank on at which the listing goes on behind it
+-- after a listed pair: its entry, and the entries from the rank at which the listing goes on after it
 pub left_under : (dir : List (List ℕ)) (query : ListQuery) (rank next : ℕ) (m : List Pair) (p : Pair) → Rises dir → IsMap m → first_from rank m ≡ Some p
     → is_under dir query p ≡ true → GoesOnAt dir query (Some (entry_point dir (entry_of dir query p))) next
     → listing dir query (pairs_from rank m) ≡ entry_of dir query p ∷ listing dir query (pairs_from next m)
@@ -158,7 +158,7 @@ left_under dir query rank next m p rises map h under on =
     left_first dir query rank m p rises map h under
     ∙ ap (λ l. e ∷ l) (ap (listing dir query) (filter-filter (is_under dir query) later behind m) ∙ listing_congr dir query (λ x. later x && behind x) (λ x. nat_le next x.key) m same)
 
--- behind a pair that is not listed: nothing
+-- after a pair that is not listed: nothing
 pub left_ended : (dir : List (List ℕ)) (query : ListQuery) (rank : ℕ) (m : List Pair) (p : Pair) → Rises dir
     → ((k : ℕ) → k < length dir → rank ≤ k → is_before (name_at dir k) query.prefix ≡ false) → IsMap m → first_from rank m ≡ Some p → is_under dir query p ≡ false
     → listing dir query (pairs_from rank m) ≡ []

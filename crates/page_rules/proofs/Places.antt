@@ -1,4 +1,4 @@
--- The entry at each place of a listing, and what is listed behind it.
+-- The entry at each place of a listing, and what is listed after it.
 use Rattle.std.proofs.Common.{◌≡◌, ℕ, zero, suc, ◌+◌, ◌<◌, ◌≤◌, ◌⊎◌, Bool, true, false, not, cond, ◌&&◌, List, [], ◌∷◌, length, get_or, drop, map, filter, Option, Some, None, refl, sym, ◌∙◌, ap, subst, inl, inr, arith}
 use Rattle.std.specs.List.{dedup}
 use Rattle.std.proofs.lemmas.Bool.{cases_Bool, cases_lt, and_from, and_right, and_parts, false_from_ne_true, true_from_ne_false, both_ways, not-true}
@@ -40,7 +40,7 @@ listing_skip dir query x t out =
     let rest = filter (is_under dir query) t in
     ap (λ b. dedup (is_same_group dir) (map (entry_of dir query) (cond b (x ∷ rest) rest))) out
 
--- what is behind an entry is above its name
+-- what is after an entry is above its name
 pub behind_above : (dir : List (List ℕ)) (query : ListQuery) (p : Pair) (o : Option ℕ) (name : List ℕ)
     → is_admitted query (Some (entry_point dir (entry_by o p))) name ≡ true → is_above name (name_at dir p.key) ≡ true
 behind_above dir query p None name h = h
@@ -87,7 +87,7 @@ entries_skip dir query point x t none =
       | inr drops ↦ ap choice drops
     ]
 
--- what is behind an entry is listed from any point that lists the entry
+-- what is after an entry is listed from any point that lists the entry
 behind_listed : (dir : List (List ℕ)) (query : ListQuery) (point : Option TokenPoint) (p x : Pair) → admits dir query point p ≡ true → is_behind dir query (entry_of dir query p) x ≡ true
     → admits dir query point x ≡ true
 behind_listed dir query point p x h behind =
@@ -150,7 +150,7 @@ first_entry dir query point low (x ∷ t) rises r =
 
 -- ---- the entry at a place
 
--- the entry at place `k`, and what is left behind it
+-- the entry at place `k`, and what is left after it
 pub record IsEntryAt (dir : List (List ℕ)) (query : ListQuery) (point : Option TokenPoint) (m : List Pair) (k : ℕ) : Type 0 where
   pub pair : Pair
   pub under : is_under dir query pair ≡ true

@@ -19,15 +19,15 @@ pub record CursorView : Type 0 where
   pub entries : List PageEntry
   -- the rank from which the next pair is to be looked for; none where the page is settled
   pub next : Option ℕ
-  -- whether an entry is known to be left behind these
+  -- whether an entry is known to be left after these
   pub truncated : Bool
 
 -- the page that the cursor has made
 abbrev pub page_so_far : CursorView → Page
 page_so_far v = record { entries = v.entries; truncated = v.truncated }
 
--- the listing from this point on goes on at the rank: below it stand just the names that are below the
--- prefix or that the point leaves out
+-- the listing from this point on goes on at the rank: below it stand exactly the names that are below the prefix or
+-- that the point leaves out
 pub record GoesOnAt (dir : List (List ℕ)) (query : ListQuery) (point : Option TokenPoint) (rank : ℕ) : Type 0 where
   pub within : rank ≤ length dir
   pub first : StandFirst (λ name. is_before name query.prefix || not (is_admitted query point name)) dir rank
@@ -70,7 +70,7 @@ pub record Took (old new : CursorView) (pair : Pair) : Type 0 where
   pub entries : new.entries ≡ (if adds old pair then old.entries ++ entry_of old.dir old.query pair ∷ [] else old.entries)
   -- a listed pair that has no room is left
   pub truncated : new.truncated ≡ (is_under old.dir old.query pair && not (adds old pair))
-  -- behind a new entry the listing goes on past its key, or past all keys of its common prefix; else the page is
+  -- after a new entry the listing goes on past its key, or past all keys of its common prefix; else the page is
   -- settled
   pub next : MatchOption new.next (adds old pair ≡ false)
       (λ rank. (adds old pair ≡ true) × (pair.key < rank) × GoesOnAt old.dir old.query (Some (entry_point old.dir (entry_of old.dir old.query pair))) rank)

@@ -3,7 +3,7 @@
 use Rattle.std.specs.Prelude.{◌≡◌, ℕ, ◌<◌, ◌≤◌, true, false, List, length}
 use Rattle.key_names.specs.Names.{name_at, begins_with}
 
--- the name at the rank `inside` begins with the group, and behind it that at `outside` does not, if there is one
+-- the name at the rank `inside` begins with the group, and after it that at `outside` does not, if there is one
 pub record AreAroundEnd (dir : List (List ℕ)) (group : List ℕ) (inside outside : ℕ) : Type 0 where
   pub begins : begins_with (name_at dir inside) group ≡ true
   pub rise : inside < outside

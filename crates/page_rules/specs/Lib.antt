@@ -1,3 +1,4 @@
+-- Pages: the law of pages, the ranks of names, and the cursor that makes a page.
 pub mod PageLaw
 pub mod PrefixRanks
 pub mod GroupEnd

@@ -37,7 +37,7 @@ entry_text dir (Group rank len) = group_text dir rank len
 abbrev pub RiseByText : List (List ℕ) → List PageEntry → Type 0
 RiseByText dir entries = AllPairs (λ e later. is_above (entry_text dir later) (entry_text dir e) ≡ true) entries
 
--- these are all entries of the query from the point on, each once: also a common prefix comes on one page alone
+-- these are all entries of the query from the point on, each once: a common prefix, too, comes on one page only
 pub record AreAllEntries (dir : List (List ℕ)) (query : ListQuery) (point : Option TokenPoint) (m : List Pair) (entries : List PageEntry) : Type 0 where
   pub all : entries ≡ entries_of dir query point m
   pub once : RiseByText dir entries

@@ -6,7 +6,8 @@ use Rattle.bucket_terms.specs.declared.list_query.ListQuery.{ListQuery}
 use Rattle.page_rules.specs.declared.prefix_ranks.PrefixRanks.{PrefixRanks}
 use Rattle.page_rules.specs.declared.known_prefixes.KnownPrefix.{KnownPrefix}
 
--- the ranks are those of the names with the prefix; below the first of them stand just the names that are below the prefix
+-- the ranks are those of the names with the prefix; below the first of them stand exactly the names that are below
+-- the prefix
 pub record AreOfPrefix (dir : List (List ℕ)) (prefix : List ℕ) (ranks : PrefixRanks) : Type 0 where
   pub within : ranks.start ≤ length dir
   pub below : StandFirst (λ name. is_before name prefix) dir ranks.start

@@ -34,12 +34,13 @@ pub struct PageCursor<'a> {
     entries: PageEntries,
     next: Option<u64>,
     truncated: bool,
-    // Where the listed names stand: from the start where the caller knows it, else once the page has so many entries that
-    // two searches for it cost less than a comparison of each name with the prefix.
+    // Where the listed names stand: from the start where the caller knows it, else once the page has so many entries
+    // that two searches for it cost less than a comparison of each name with the prefix.
     ranks: Option<PrefixRanks>,
 }
 
-/// From so many entries on a page looks for the ranks of the names that it may list.
+/// From this many entries on, a page looks for the ranks of the names that it may list: the two searches take as long
+/// as some twenty comparisons.
 const MANY: usize = 32;
 
 impl<'a> Model for PageCursor<'a> {
@@ -126,16 +127,16 @@ impl<'a> PageCursor<'a> {
         self.next
     }
 
-    /// Takes the first pair from `next_rank` on: adds its entry, or settles that the page is truncated or
-    /// ended. A pair whose key is no rank ends the page. The entries grow with the allocator that `new` was
-    /// given: the one here is not used.
+    /// Takes the first pair from `next_rank` on: adds its entry, or settles that the page is truncated or ended. A
+    /// pair whose key is no rank ends the page. The entries grow with the allocator that `new` was given: the one
+    /// here is not used.
     #[inline(always)]
     pub fn take(&mut self, _alloc: Global, pair: Pair) -> Result<(), NoMemory>
         requires { IsSome self.old.next }
         ensures took { OnOk result (Took self.old self.new pair) }
         ensures unchanged { OnErr result (self.new ≡ self.old) }
     {
-        // the call's clauses tell the proof that the names rise and are UTF-8
+        // for the proof: the call's clauses say that the names rise and are UTF-8
         let _names = self.dir.len();
         if !self.lists(&pair) {
             self.next = None;
@@ -154,8 +155,8 @@ impl<'a> PageCursor<'a> {
         self.add(&pair, entry)
     }
 
-    // Adds the entry of a listed pair, for which there is room. It is built into its callers: where there is no delimiter
-    // the compiler then knows that the entry is a key.
+    // Adds the entry of a listed pair, for which there is room. It is inlined: where there is no delimiter the
+    // compiler then knows that the entry is a key.
     #[inline(always)]
     fn add(&mut self, _pair: &Pair, entry: PageEntry) -> Result<(), NoMemory>
         requires some { IsSome self.old.next }
@@ -174,7 +175,7 @@ impl<'a> PageCursor<'a> {
         Ok(())
     }
 
-    // Looks for the ranks of the listed names, where they are not known and the page has come to have so many entries.
+    // Looks for the ranks of the listed names, where they are not known and the page has reached so many entries.
     #[inline(always)]
     fn note_ranks(&mut self)
         ensures { self.new ≡ self.old }
@@ -195,8 +196,8 @@ impl<'a> PageCursor<'a> {
         }
     }
 
-    /// The page. It is that of the query on each map to whose page the cursor is on its way, once nothing is
-    /// left to take.
+    /// The page. Once nothing is left to take, it is that of the query on each map to whose page the cursor is on
+    /// its way.
     pub fn finish(self) -> Page
         ensures entries { result ≡ page_so_far self.entry }
         ensures page { (point : Option TokenPoint) (m : List Pair) → IsMap m → IsOver self.entry m → IsOnWay self.entry point m

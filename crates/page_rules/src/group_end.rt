@@ -6,9 +6,10 @@ ghost use Rattle.page_rules.specs.GroupEnd.{AreAroundEnd};
 
 use key_names::Directory;
 
-/// The rank of the first name behind those that begin with this text, as the name at `rank` does: what
-/// `Directory::past_prefix` answers. It is found in steps that double, so that a group of few names is left by few
-/// comparisons, with names that stand near one another, however many names there are.
+/// The rank of the first name after those that begin with this text, as the name at `rank` does: what
+/// `Directory::past_prefix` returns. It is found in steps that double, so that a group of few names is left after few
+/// comparisons, with names that stand near one another, however many names there are; a search among all names looks
+/// all over the directory. Not inlined into the loop of a listing, which is slower with it.
 #[inline(never)]
 pub(crate) fn group_end(dir: &Directory, rank: u64, group: &str) -> u64
     requires rank { rank < length dir.now }
@@ -16,7 +17,7 @@ pub(crate) fn group_end(dir: &Directory, rank: u64, group: &str) -> u64
     ensures within { result ≤ length dir.now }
     ensures first { StandFirst (λ name. is_upto_prefix name group.now) dir.now result }
 {
-    // the call's clauses tell the proof that the names rise
+    // for the proof: the call's clauses say that the names rise
     let _names = dir.len();
     let (mut inside, mut outside) = around_end(dir, rank, group);
     while inside + 1 < outside {
@@ -30,7 +31,7 @@ pub(crate) fn group_end(dir: &Directory, rank: u64, group: &str) -> u64
     outside
 }
 
-// A rank within the group, and one behind it.
+// A rank within the group, and one after it.
 fn around_end(dir: &Directory, rank: u64, group: &str) -> (u64, u64)
     requires rank { rank < length dir.now }
     requires begins { begins_with (name_at dir.now rank) group.now ≡ true }

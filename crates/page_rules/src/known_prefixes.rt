@@ -8,12 +8,13 @@ use std::alloc::Global;
 use std::hash::{FoldHasher, Hasher};
 use std::marker::Model;
 
-/// How many places there are for prefixes.
+/// How many places there are for prefixes: a fixed number, so that the table takes the same memory, some 100 KiB,
+/// whatever prefixes a client names.
 const PLACES: usize = 1024;
 
-/// A directory, and the ranks of prefixes in it, in a table of fixed size. Where a prefix has the place of another one
-/// that was noted before it, it is not kept: then its ranks are looked for as if there were no table. Contracts see the
-/// names of the directory.
+/// A directory, and the ranks of prefixes in it, in a table of fixed size. A prefix whose place another one has taken
+/// before is not kept: its ranks are then looked for as if there were no table. Contracts see the names of the
+/// directory.
 #[derive(Drop)]
 pub struct KnownPrefixes<'a> {
     dir: &'a Directory,

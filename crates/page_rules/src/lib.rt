@@ -1,7 +1,7 @@
-//! The rules of a listing: which names are listed, how keys are rolled up into common prefixes, and where
-//! a page ends. It reaches no map: the layer above hands it pairs, and makes its pages by `PageCursor`, from one
-//! look-up for each entry. Two more ways to the same page are there to compare with: `page_of_list`, the definition of
-//! a page made a program, and `page_by_look_ups`, the cursor over a sorted list.
+//! The rules of a listing: which names are listed, how keys are rolled up into common prefixes, and where a page
+//! ends. It reaches no map: the layer above hands it pairs, and makes its pages by `PageCursor`, from one look-up for
+//! each entry. Two more ways to the same page serve for comparison: `page_of_list`, the definition of a page as a
+//! program, and `page_by_look_ups`, the cursor over a sorted list.
 #![tactic(auto)]
 
 mod cursor;

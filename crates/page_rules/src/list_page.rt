@@ -1,3 +1,4 @@
+// The definition of a page as a program.
 ghost use Rattle.std.specs.Prelude.{◌≡◌, [], ◌∷◌, ◌++◌, IfOk, OnOk, map, filter};
 ghost use Rattle.std.specs.Option.{option_copied};
 ghost use Rattle.key_names.specs.Names.{name_at};
@@ -13,8 +14,8 @@ use key_map::Pair;
 use key_names::{Directory, NoMemory};
 use std::alloc::Global;
 
-/// The page of a query on a whole list of pairs, from a point on: filter, group and cut. It is the
-/// definition of the page made a program, for small lists and to compare with.
+/// The page of a query on a whole list of pairs, from a point on: filter, group and cut. It is the definition of the
+/// page as a program, for small lists and for comparison.
 ///
 /// ```
 /// // the names a/1, a/2 and b, listed with the delimiter / and at most one entry
@@ -37,7 +38,7 @@ pub fn page_of_list(
     ensures chained { IfOk result (λ page. IsMap list.now → BeginsAll dir.now query.now (option_copied point.entry) list.now page) }
     ensures each_once { IfOk result (λ page. IsMap list.now → RiseByText dir.now page.entries) }
 {
-    // the calls' clauses tell the proof that the names rise, and that names and delimiter are UTF-8
+    // for the proof: the calls' clauses say that the names rise, and that names and delimiter are UTF-8
     let (_names, _delimiter) = (dir.len(), query.delimiter.bytes());
     let entries = entries_of(alloc, dir, list, query, point)?;
     Ok(cut_at(query.max_keys, entries))

@@ -29,14 +29,14 @@ pub(crate) fn first_rank(
     prefix.max(first_admitted(dir, query, point))
 }
 
-/// The rank at which a listing goes on behind an entry: past its key, or past all keys of its common prefix.
+/// The rank at which a listing goes on after an entry: past its key, or past all keys of its common prefix.
 #[inline(always)]
 pub(crate) fn rank_behind(dir: &Directory, query: &ListQuery, entry: &PageEntry) -> u64
     requires in_range { IsEntryInRange dir.now entry.now }
     requires listed { is_before (entry_text dir.now entry.now) query.now.prefix ≡ false }
     ensures { GoesOnAt dir.now query.now (Some (entry_point dir.now entry.now)) result }
 {
-    // the call's clauses tell the proof that the names rise
+    // for the proof: the call's clauses say that the names rise
     let _names = dir.len();
     match *entry {
         PageEntry::Key { rank, .. } => u64::from(rank) + 1,

@@ -49,8 +49,8 @@ pub(crate) fn entry_of(dir: &Directory, query: &ListQuery, pair: &Pair) -> PageE
     ensures entry { result ≡ entry_of dir.now query.now pair.now }
     ensures in_range { IsEntryInRange dir.now result }
 {
-    // the calls' clauses tell the proof that ranks have 32 bits, that names are short, and that names and delimiter are
-    // UTF-8, so a group ends a character
+    // for the proof: the calls' clauses say that ranks have 32 bits, that names are short, and that names and
+    // delimiter are UTF-8, so a group ends at the end of a character
     let _names = dir.len();
     if query.delimiter.bytes().is_empty() {
         return key_of(dir, query, pair);
@@ -76,7 +76,7 @@ pub(crate) fn key_of(dir: &Directory, _query: &ListQuery, pair: &Pair) -> PageEn
     ensures entry { result ≡ entry_of dir.now _query.now pair.now }
     ensures in_range { IsEntryInRange dir.now result }
 {
-    // the call's clauses tell the proof that ranks have 32 bits
+    // for the proof: the call's clauses say that ranks have 32 bits
     let _names = dir.len();
     PageEntry::Key {
         rank: pair.key as u32,
@@ -100,7 +100,7 @@ pub(crate) fn is_same_group(dir: &Directory, next: &PageEntry, last: &PageEntry)
     }
 }
 
-// How `name` stands to `other` in the byte order.
+// How `name` compares with `other` in byte order.
 fn is_above(name: &[u8], other: &[u8]) -> bool
     ensures { result ≡ is_above name.now other.now }
 {
@@ -115,7 +115,7 @@ fn group_text(dir: &Directory, rank: u32, len: u32) -> &[u8]
     name.get(..len as usize).unwrap_or(name)
 }
 
-/// The same as a text. The group ends a character of the name.
+/// The same as a text. The group ends at the end of a character of the name.
 pub(crate) fn group_str(dir: &Directory, rank: u32, len: u32) -> &str
     requires { IsGroupInRange dir.now rank len }
     ensures { result.now ≡ take len (name_at dir.now rank) }

@@ -1,4 +1,4 @@
--- A token is told by its text.
+-- A token is determined by its text.
 use Rattle.std.proofs.Common.{◌≡◌, ◌≢◌, ℕ, ◌+◌, ◌/◌, ◌%◌, ◌<◌, ◌≤◌, List, [], ◌∷◌, ◌++◌, length, Option, Some, None, IfSome, get_or, refl, sym, ap, ap₂, subst, ◌∙◌, arith, lit<}
 use Rattle.base64.specs.Engines.{url_safe_no_pad}
 use Rattle.base64.specs.GeneralPurpose.{encode_of, decode_of, IsBytes}
@@ -63,7 +63,7 @@ point_once (Group a) (Key b) letters texts = absurd (omega (arith, letters))
 
 -- ---- the parts of a token with a bound
 
--- what the bytes of a token tell, where they have a prefix, a delimiter and a text behind `2` and a letter
+-- what the bytes of a token determine, where they have a prefix, a delimiter and a text after `2` and a letter
 pub record HasParts (point : TokenPoint) (bound : Option Bound) (letter : ℕ) (prefix delimiter text : List ℕ) : Type 0 where
   pub letter_is : point_letter point ≡ letter
   pub text_is : point_text point ≡ text
@@ -92,7 +92,7 @@ pub parts_told : (t : Token) (letter : ℕ) (bytes prefix delimiter text : List 
 parts_told t letter bytes prefix delimiter text has short_p short_d cut same =
     parts_by t.point t.bound letter prefix delimiter text has.bound short_p short_d (same ∙ ap (λ xs. 50 ∷ letter ∷ xs) cut)
 
--- the bytes behind `2` and a letter have the parts of the token's bound
+-- the bytes after `2` and a letter have the parts of the token's bound
 uncut_by : (p : TokenPoint) (bound : Option Bound) (letter : ℕ) (bytes : List ℕ) → IfSome bound IsShortBound
     → ((prefix delimiter text : List ℕ) → length prefix ≤ most_name_bytes → length delimiter ≤ most_name_bytes → bytes ≢ sized prefix ++ (sized delimiter ++ text))
     → bytes_by p bound ≢ 50 ∷ letter ∷ bytes
@@ -105,7 +105,7 @@ pub uncut : (t : Token) (letter : ℕ) (bytes : List ℕ) → HasText t
     → token_bytes t ≢ 50 ∷ letter ∷ bytes
 uncut t letter bytes has none = uncut_by t.point t.bound letter bytes has.bound none
 
--- ---- one token a text
+-- ---- one token for each text
 
 once_by : (p q : TokenPoint) (b d : Option Bound) → IfSome b IsShortBound → IfSome d IsShortBound → bytes_by p b ≡ bytes_by q d
     → (p ≡ q) × (b ≡ d)

@@ -5,7 +5,7 @@ ghost use Rattle.bucket_terms.specs.Listing.{four_digits, sized};
 
 use key_names::MAX_NAME_BYTES;
 
-/// What stands behind the letter of a token with a bound: the prefix, the delimiter, and the text of the point.
+/// What follows the letter of a token with a bound: the prefix, the delimiter, and the text of the point.
 #[derive(Clone, Copy)]
 pub(crate) struct Parts<'a> {
     pub(crate) prefix: &'a [u8],
@@ -34,7 +34,7 @@ pub(crate) fn parts_of(bytes: &[u8]) -> Option<Parts<'_>>
     })
 }
 
-// A text behind its length, and what stands behind it.
+// A text after its length, and what follows it.
 fn cut_sized(bytes: &[u8]) -> Option<(&[u8], &[u8])>
     ensures cut { IfSome result (λ cut. bytes.now ≡ sized cut.0.now ++ cut.1.now) }
     ensures short { IfSome result (λ cut. length cut.0.now ≤ most_name_bytes) }
@@ -49,7 +49,7 @@ fn cut_sized(bytes: &[u8]) -> Option<(&[u8], &[u8])>
     Some(rest.split_at(len))
 }
 
-// The number that the first four digits spell, and what stands behind them.
+// The number that the first four digits spell, and what follows them.
 fn cut_len(bytes: &[u8]) -> Option<(usize, &[u8])>
     ensures cut { IfSome result (λ cut. bytes.now ≡ four_digits cut.0 ++ cut.1.now) }
     ensures below { IfSome result (λ cut. cut.0 < 10000) }

@@ -74,7 +74,7 @@ fn free_token(alloc: Global, letter: u8, text: &[u8]) -> Result<Token, TokenErro
     })
 }
 
-// A token with a bound: its letter, and what stands behind it.
+// A token with a bound: its letter, and what follows it.
 fn bound_token(alloc: Global, letter: u8, bytes: &[u8]) -> Result<Token, TokenError>
     ensures lawful { IfOk result HasText }
     ensures spelled { IfOk result (λ token. token_bytes token ≡ 50 ∷ letter ∷ bytes.now) }

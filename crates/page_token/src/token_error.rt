@@ -1,3 +1,4 @@
+// The errors of reading a token.
 use key_names::NoMemory;
 
 /// Why a text gives no point.

@@ -10,9 +10,9 @@ use std::alloc::Global;
 /// As many bytes as a usual token has, so that most are made in one allocation.
 const USUAL_BYTES: usize = 96;
 
-/// The text of the token of a point, bound to a prefix and a delimiter: the URL-safe base64 without padding (RFC 4648,
-/// `base64url`) of `2`, of the letter `K` or `P`, of the prefix and the delimiter, each behind its length as four
-/// decimal digits, and of the key or the common prefix.
+/// The text of the token of a point, bound to a prefix and a delimiter: the URL-safe base64 without padding (RFC
+/// 4648, `base64url`) of `2`, of the letter `K` or `P`, of the prefix and the delimiter, each after its length as
+/// four decimal digits, and of the key or the common prefix.
 ///
 /// ```
 /// let point = TokenPoint::Group(Text::of(alloc, "a/")?);
@@ -58,7 +58,7 @@ fn text_of(point: &TokenPoint) -> &[u8]
     }
 }
 
-// A text behind its length.
+// A text after its length.
 fn push_sized(spelled: &mut Vec<u8>, text: &[u8]) -> Result<(), NoMemory>
     ensures { OnOk result (spelled.new.items ≡ spelled.old.items ++ sized text.now) }
 {

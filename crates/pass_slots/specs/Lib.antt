@@ -1,1 +1,2 @@
+-- What a pass keeps of its slots at run time.
 pub mod Owned

@@ -1,4 +1,4 @@
--- What a pass keeps of its slots at run time, beside what its view says.
+-- What a pass keeps of its slots at run time, besides what its view says.
 use Rattle.std.specs.Prelude.{◌≡◌, ℕ, ◌+◌, ◌<◌, List, Bool, Option, Some, length, ◌&&◌, true}
 use Rattle.std.specs.List.{slice_get}
 use Rattle.index_words.specs.declared.view.View.{View}

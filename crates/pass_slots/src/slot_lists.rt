@@ -1,3 +1,4 @@
+//! The lists of the slots of a pass, with its looks, as `PassSlots` holds them.
 ghost use Rattle.std.specs.Prelude.{◌≡◌, ◌≤◌, ◌<◌, Some, ◌&&◌, true};
 ghost use Rattle.index_words.specs.declared.view.View.{View};
 ghost use Rattle.core_grace.specs.Batches.{batch_taken, settled, looked, is_empty};
@@ -57,7 +58,7 @@ impl SlotLists {
         }
     }
 
-    /// An enter where slots may wait. It answers whether none waits any more, nor was there a look. A call of its own:
+    /// An enter where slots may wait. It answers whether none waits any more and no look was made. A call of its own:
     /// where nothing waits, an enter is a test in its caller's place.
     #[inline(never)]
     pub(crate) fn enter(&mut self, passes: u32, number: u32) -> bool

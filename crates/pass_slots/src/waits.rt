@@ -1,3 +1,4 @@
+//! What a pass keeps of its looks at other passes' sections.
 ghost use Rattle.std.specs.Prelude.{◌≡◌, ◌<◌, ◌≤◌, Some, true};
 ghost use Rattle.index_words.specs.declared.view.slots.Looks.{Looks};
 ghost use Rattle.index_words.specs.Views.{no_looks};
@@ -8,7 +9,7 @@ ghost use Rattle.pass_slots.specs.Owned.{KeepsLooks};
 use core_grace::passed;
 use std::marker::Model;
 
-/// As many passes as a table has at most.
+/// The greatest number of passes that a table can have.
 const PASSES: usize = 32;
 
 /// What the looks at other passes' sections have shown since a wait began: the odd word that was found first, and

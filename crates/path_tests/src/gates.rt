@@ -1,5 +1,6 @@
-// What a gate is told, and when: each request's calls of the pass stand between the two calls of the gate. Both are
-// told the number of the pass and the line of the request. What sessions are answered is compared by tests/rows.py.
+// What is reported to a gate, and when: each request's calls of the pass stand between the two calls of the gate. Both
+// are given the number of the pass and the line of the request. The answers of sessions are compared by
+// tests/program/rows.py.
 ghost use Rattle.std.specs.Prelude.{◌≤◌, All, length};
 ghost use Rattle.request_lines.specs.InputParts.{most_requests};
 ghost use Rattle.request_lines.specs.Session.{request_lines};
@@ -26,7 +27,7 @@ enum Told {
     After(u32, u32),
 }
 
-// Keeps in order what the gate is told, and the calls of the pass.
+// Keeps what is reported to the gate, and the calls of the pass, in order.
 #[derive(Drop)]
 struct Diary {
     told: RefCell<Vec<Told>>,
@@ -108,7 +109,7 @@ impl<P: KeyPass> KeyPass for Watched<'_, P> {
     }
 }
 
-// Runs the one client of the text: how many replies there are.
+// Runs the one client of the text. Returns how many replies there are.
 fn run<Rt: Wait>(rt: &Rt, alloc: Global, text: &str, diary: &Diary) -> Result<usize, Fail> {
     if text.len() > MAX_INPUT_BYTES {
         return Err("the text is too long".into());
@@ -165,7 +166,7 @@ const TOLD: [Told; 16] = [
     Told::After(CLIENT, 7),
 ];
 
-// Whether the diary has just this.
+// Whether the diary has exactly this.
 fn has_told(diary: &Diary, told: &[Told]) -> bool {
     match diary.told.try_borrow() {
         Ok(noted) => noted.as_slice() == told,

@@ -1,5 +1,5 @@
-//! Tests of the public calls of the path's crates, which are proved once so and not a second time with their tests.
-//! What whole sessions are answered is compared by rows that the built program is run on.
+//! Tests of the public calls of the path's crates, in a crate of their own, so that those crates are not proved a
+//! second time with their tests. The answers of whole sessions are compared by rows that the built program is run on.
 #![tactic(auto)]
 
 #[cfg(test)]

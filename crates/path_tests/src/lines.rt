@@ -1,4 +1,4 @@
-// Lines with values that no session of the program comes to; tests/rows.py compares those of sessions.
+// Lines with values that no session of the program reaches; tests/program/rows.py compares those of sessions.
 ghost use Rattle.std.specs.Prelude.{◌≡◌, IfOk, length};
 
 use answer_text::{journal_line, last_line, reply_line};

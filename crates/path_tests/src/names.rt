@@ -56,7 +56,7 @@ fn ranks_count_from_zero(rt: HostRuntime) -> Result<(), Fail> {
     Ok(())
 }
 
-// The error of a directory of `x`, a name of so many letters, and an empty one.
+// The error of a directory of `x`, a name of so many letters, and an empty name.
 fn error_beside(alloc: Global, letters: usize) -> Result<Option<NamesError>, Fail> {
     let long = "n".repeat(alloc, letters)?;
     Ok(directory_of(alloc, &["x", long.as_str(), ""]).err())
@@ -75,7 +75,8 @@ fn names_the_first_faulty_name(rt: HostRuntime) -> Result<(), Fail> {
     Ok(())
 }
 
-// How many of the names a/1, a/2, a0 and b are below a text, at most it, and below it or begin with it.
+// Whether the names a/1, a/2, a0 and b are counted right: those below a text, those at most equal to it, and those
+// below it or beginning with it.
 fn has_right_places(dir: &Directory) -> bool {
     let before = [
         dir.at_or_after(b"a/2"),

@@ -1,4 +1,4 @@
-// Pages of a list, by the definition and by look-ups; tests/rows.py compares those of sessions.
+// Pages of a list, by the definition and by look-ups; tests/program/rows.py compares those of sessions.
 use bucket_terms::{ListQuery, Page, PageEntry, TokenPoint};
 use key_map::Pair;
 use key_names::{Directory, NoMemory, Text};
@@ -38,7 +38,7 @@ fn one_entry(alloc: Global) -> Result<ListQuery, NoMemory> {
     })
 }
 
-// Whether the page has these entries alone, and is truncated or not.
+// Whether the page has exactly these entries, and is truncated or not.
 fn has_entries(page: &Page, entries: &[PageEntry], truncated: bool) -> bool {
     let alike = entries.iter().enumerate().all(|(place, entry)| {
         place < page.entries.len() && page.entries.at(place) == *entry
@@ -46,7 +46,7 @@ fn has_entries(page: &Page, entries: &[PageEntry], truncated: bool) -> bool {
     alike && page.entries.len() == entries.len() && page.truncated == truncated
 }
 
-// Whether the page has this entry alone, and is truncated or not.
+// Whether the page has exactly this entry, and is truncated or not.
 fn is_page(page: &Page, entry: PageEntry, truncated: bool) -> bool {
     has_entries(page, &[entry], truncated)
 }
@@ -65,7 +65,7 @@ fn have_page(
     Ok(is_page(&page, entry, truncated) && is_page(&looked_up, entry, truncated))
 }
 
-// Where the listing goes on behind its first page.
+// Where the listing goes on after its first page.
 fn point_behind(alloc: Global, dir: &Directory) -> Result<Option<TokenPoint>, NoMemory> {
     page_of_list(alloc, dir, &PAIRS, &one_entry(alloc)?, None)?.point(alloc, dir)
 }
@@ -102,7 +102,7 @@ fn asks_for_two(alloc: Global, cursor: &mut PageCursor<'_>) -> Result<bool, NoMe
     Ok(cursor.next_rank().is_none())
 }
 
-// Whether it gives the first page then.
+// Whether the cursor then gives the first page.
 fn leaves_the_group_at_once(alloc: Global, dir: &Directory) -> Result<bool, NoMemory> {
     let query = one_entry(alloc)?;
     let mut cursor = PageCursor::new(alloc, dir, &query, None);

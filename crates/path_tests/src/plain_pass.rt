@@ -1,4 +1,5 @@
-// Answers of a plain pass as rows, written by hand from the definitions; tests/rows.py has rows of pages and queries.
+// Answers of a plain pass as rows, handwritten from the definitions; tests/program/rows.py has rows of pages and
+// queries.
 ghost use Rattle.std.specs.Prelude.{◌≡◌, None};
 
 use crate::steps::{put, put_new, remove, snapshot};
@@ -21,7 +22,7 @@ enum Row {
     Client(u32),
 }
 
-/// Makes the row's call, and tells whether it has the row's answer.
+/// Makes the row's call. Returns whether it has the row's answer.
 fn has_answer<P: KeyPass, R: Wait>(rt: &R, pass: &mut P, row: &Row) -> bool
     requires { (P.view pass.old).opened ≡ None }
     ensures { (P.view pass.new).opened ≡ None }
@@ -149,7 +150,7 @@ const ONE_NODE: [Row; 6] = [
     Row::First(0, 1, Some(Pair { key: 5, val: 50 })),
 ];
 
-// The slots are looked at before the key is, so a key that is there makes no difference.
+// The slots are checked before the key, so a key that is there makes no difference.
 const NEW_KEYS: [Row; 7] = [
     Row::PutNew(1, 5, 50, Ok(New::Made { at: 1 })),
     Row::PutNew(2, 5, 51, Ok(New::Kept { at: 1 })),

@@ -1,4 +1,4 @@
-// What a session keeps of its lines; tests/rows.py compares the causes, the limits and the texts of fields.
+// What a session keeps of its lines; tests/program/rows.py compares the causes, the limits and the texts of fields.
 use bucket_terms::Request;
 use request_lines::{MAX_INPUT_BYTES, Session, SessionError, read_session};
 use std::alloc::Global;
@@ -21,12 +21,12 @@ struct Row {
     lines: &'static [Kept],
     /// How many of each client's lines are writes.
     writes: &'static [u32],
-    /// The names of the lines that have one, in their order, each with a space behind it.
+    /// The names of the lines that have one, in their order, each with a space after it.
     names: &'static str,
 }
 
-// A name and a record of its own for each put. The second of three clients asks nothing, and a record is named by its
-// place among those of all clients.
+// A name and a record of its own for each put. The second of three clients makes no request, and a record is named by
+// its place among those of all clients.
 const ROWS: [Row; 3] = [
     Row {
         text: "CLIENT\nPUT b 2 e2 20\nPUT a 1 e1 10\nPUT b 3 e3 30\nLIST\n",
@@ -95,7 +95,7 @@ fn names(alloc: Global, session: &Session) -> Result<String, Fail> {
     Ok(names)
 }
 
-/// Whether just this is kept of the row's text.
+/// Whether exactly this is kept of the row's text.
 fn is_kept(alloc: Global, row: &Row) -> Result<bool, Fail> {
     let session = read(alloc, row.text)?;
     Ok(
@@ -105,7 +105,7 @@ fn is_kept(alloc: Global, row: &Row) -> Result<bool, Fail> {
     )
 }
 
-/// The text of the first row of which another thing is kept.
+/// The text of the first row of which something else is kept.
 fn first_wrong(alloc: Global) -> Result<Option<&'static str>, Fail> {
     for row in ROWS {
         if !is_kept(alloc, &row)? {

@@ -1,4 +1,5 @@
-// Readings and writings of a whole input and output, by rows; tests/broken_streams.py breaks the program's own streams.
+// Readings and writings of a whole input and output, by rows; tests/program/broken_streams.py breaks the program's own
+// streams.
 ghost use Rattle.std.specs.Prelude.{Some, ◌<◌};
 
 use outside_io::{
@@ -9,7 +10,7 @@ use std::alloc::Global;
 use std::io::{BufWriter, Read, Write};
 use std::test::Fail;
 
-/// Whether reading gives so many of the bytes `bytes`, or this error.
+/// Whether reading gives these bytes, or this error.
 fn gives<S: Source>(
     alloc: Global,
     source: &mut S,
@@ -113,7 +114,7 @@ fn a_sink_fails_at_its_writes_and_for_want_of_room(rt: HostRuntime) -> Result<()
     Ok(())
 }
 
-// Of three bytes at a time into room for seven; the fifth write fails.
+// A step takes at most three bytes, into room for seven; the fifth write fails.
 const STEPS: [Call; 5] = [
     Call::WriteAll(b"abcde", Ok(())),
     Call::Write(b"fgh", Ok(2)),
@@ -142,7 +143,7 @@ fn takes_the_standard_streams(rt: HostRuntime) -> Result<(), Fail> {
     Ok(())
 }
 
-/// A writer that takes one byte at a time, and none where its room is used up.
+/// A writer that takes one byte at a time, and none once its room is used up.
 #[derive(Drop)]
 struct ByteWriter {
     bytes: Vec<u8>,
@@ -184,7 +185,8 @@ impl Sink for ByteOutput {
     }
 }
 
-// Each short write is told as short, so all bytes come; a writer that takes none has failed, behind the start of a piece.
+// Each short write is reported as short, so all bytes are taken; a writer that takes none has failed, after the start
+// of a piece.
 const SHORT_WRITES: [Call; 3] = [
     Call::WriteAll(b"abc", Ok(())),
     Call::Write(b"", Ok(0)),
@@ -204,7 +206,7 @@ fn writes_on_behind_short_writes(rt: HostRuntime) -> Result<(), Fail> {
     Ok(())
 }
 
-// A buffer keeps short pieces back until it is flushed. A writer that does not take them has failed then.
+// A buffer keeps short pieces back until it is flushed. If the writer does not take them, the flush fails.
 #[test]
 fn hands_on_what_a_buffer_has(rt: HostRuntime) -> Result<(), Fail> {
     let writer = ByteWriter {
@@ -255,7 +257,7 @@ fn reads<R: Read>(input: &mut R, wanted: [Result<usize, Failed>; 3], most: u64) 
     answers == wanted && faults == most
 }
 
-// A read that fails is no end.
+// A read that fails is not the end.
 #[test]
 fn counts_a_failed_read(rt: HostRuntime) -> Result<(), Fail> {
     let mut input = BrokenReader { reads: 0 };

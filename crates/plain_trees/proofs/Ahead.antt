@@ -1,4 +1,4 @@
--- Before a removal with two children raises, searches below the removed node come to the successor.
+-- Before a removal with two children raises, searches below the removed node reach the successor.
 use Rattle.std.proofs.Common.{ℕ, ◌<◌, ◌≤◌, inl, inr, refl, sym, ◌∙◌, subst, arith}
 use Rattle.index_words.specs.declared.side.Side.{Side}
 use Rattle.index_words.specs.declared.side.Side.TheVariants.{Left}
@@ -34,7 +34,7 @@ first-below s key bound (Branch m k v l r) all (inl here) = omega (arith, all.0,
 first-below s key bound (Branch m k v l r) all (inr below) = first-below s key bound l all.1 below
 
 module _ (u : Undone) (s : ℕ) where
-  -- a null link of the tree at the stamp that no update has still to set is null in the plain tree
+  -- a null link of the tree at the stamp that no update still has to set is null in the plain tree
   pub null-plain : (p : ℕ) (d : Side) (plain now : NamedTree) → ((was child : ℕ) → IsUnset u p d was child → ⊥) → Matches u p d plain now → IsNull now → IsNull plain
   null-plain p d Null now settled h n = tt
   null-plain p d (Branch c k v l r) (Branch _ _ _ _ _) settled h n = absurd n

@@ -9,11 +9,11 @@ use Rattle.plain_trees.specs.Stores.{Relinks, Grows, Replaces, LiftsRight, Lifts
 use Rattle.plain_trees.proofs.Forms.{LeavesMet, LeavesLeads, LeavesFrom}
 use Rattle.plain_trees.proofs.Points.{leads-below}
 
--- what is told of a node of a subtree is told of it in the tree
+-- what is said of a node of a subtree is said of it in the tree
 abbrev pub Rises : (ℕ → NamedTree → Type 0) → Type 0
 Rises other = (c s k v : ℕ) (l r : NamedTree) → (other c l → other c (Branch s k v l r)) × (other c r → other c (Branch s k v l r))
 
--- a change of one subtree leaves of the whole tree what it leaves of the subtree
+-- what a change of one subtree keeps of the subtree it keeps of the whole tree
 pub meets-on : (fine : ℕ → Type 0) (x : ℕ) (other : ℕ → NamedTree → Type 0) (change : NamedTree → NamedTree → Type 0) → Rises other → LeavesMet x other change
     → LeavesMet x other (Relinks fine change)
 meets-on fine x other change rises leaves c Null u re meets = leaves c Null u re meets
@@ -39,7 +39,7 @@ meets-on fine x other change rises leaves c (Branch s k v l r) u (inr far) meets
     below on-left on-right (inl left) (inr (inr down)) = inl (inr (inr (down.0, subst (Meets x c) left.2 down.1)))
     below on-left on-right (inr right) (inr (inr down)) = goes-right (on-right right.1 down.1) down.0
 
--- so it is of the way to a successor
+-- the same for the way to a successor
 pub leads-on : (fine bypassed : ℕ → Type 0) (x s : ℕ) (change : NamedTree → NamedTree → Type 0) → (fine s → ⊥) → ((m : ℕ) → fine m → bypassed m → ⊥) → LeavesLeads bypassed x s change
     → LeavesLeads bypassed x s (Relinks fine change)
 leads-on fine bypassed x s change waits bares leaves Null u re leads = absurd leads
@@ -61,7 +61,7 @@ leads-on fine bypassed x s change waits bares leaves (Branch m k v l r) u (inr f
     below on-left on-right (inl left) (inr (inr past)) = inr (inr (past.0, left-null (λ f. bares m f past.0) (inl left) past.1, subst (LeadsTo bypassed x s) left.2 past.2))
     below on-left on-right (inr right) (inr (inr past)) = inr (inr (past.0, left-null (λ f. bares m f past.0) (inr right) past.1, on-right right.1 past.2))
 
--- and of the subtrees
+-- and for the subtrees
 pub from-on : (fine bypassed gone : ℕ → Type 0) (x s : ℕ) (change : NamedTree → NamedTree → Type 0) → (fine s → ⊥) → ((m : ℕ) → fine m → bypassed m → ⊥) → LeavesLeads bypassed x s change
     → LeavesFrom bypassed x s gone change → LeavesFrom bypassed x s gone (Relinks fine change)
 from-on fine bypassed gone x s change waits bares leads leaves c Null u re h = absurd h
@@ -118,7 +118,8 @@ lifts_left-met x n other gone c t u h meets = parts (subst (Meets x c) h.was mee
     parts (inr (inl left)) = inl left.1
     parts (inr (inr right)) = absurd right.1
 
--- a copy of the successor, which stays: a point above the removed key and at most the copied one comes to the successor from each node that
+-- a copy of the successor, which stays: a point above the removed key and at most the copied one reaches the successor
+-- from each node that its search has met
 -- its search has met
 pub copies-met : (x n s from until : ℕ) (bypassed : ℕ → Type 0) (other : ℕ → NamedTree → Type 0) → ((u : NamedTree) → other n u)
     → ((c : ℕ) (u : NamedTree) → point_of from < x → x ≤ point_of until → LeadsFrom bypassed x s c u → other c u)
@@ -157,7 +158,7 @@ joins-met x n s other gone gone' c t u h meets =
     parts (inr (inl left)) = inl (inr (inl (omega (arith, left.0, h.rises), left.1)))
     parts (inr (inr right)) = next right.0 right.1
 
--- what each change leaves of the way to a successor that another seat has locked
+-- what each change keeps of the way to a successor that another seat has locked
 pub grows-leads : (bypassed : ℕ → Type 0) (x s : ℕ) → LeavesLeads bypassed x s Grows
 grows-leads bypassed x s t u h leads = absurd (subst (LeadsTo bypassed x s) h.was leads)
 

@@ -1,4 +1,4 @@
--- With more to be set, and more nodes taken out, the plain tree matches still.
+-- With more links to be set, and more nodes taken out, the plain tree still matches.
 use Rattle.std.proofs.Common.{ℕ, inl, inr}
 use Rattle.index_words.specs.declared.side.Side.{Side}
 use Rattle.index_words.specs.declared.side.Side.TheVariants.{Left, Right}
@@ -12,7 +12,7 @@ module _ (u u' : Undone) (extends : Extends u u') where
   ahead-more removed from until t h =
       (h.0, extends.heirs removed h.0 h.1, λ x a b. leads-keep (IsBypassed u) (IsBypassed u') x h.0 t (λ z _. extends.passes z) (h.2 x a b))
 
-  -- with more to be set, and more taken out, it matches still
+  -- with more to be set, and more taken out, it still matches
   pub still : (p : ℕ) (d : Side) (plain now : NamedTree) → Matches u p d plain now → Matches u' p d plain now
   still p d Null Null h = inl tt
   still p d Null (Branch m k v l r) (inl h) = absurd h
@@ -32,7 +32,7 @@ module _ (u u' : Undone) (extends : Extends u u') where
   still p d (Branch c k v l r) (Branch m k' v' l' r') (LiftedLeft o h) =
       LiftedLeft (extends.outs c o) (h.0, h.1, (h.2.0, extends.links p d c h.2.0 h.2.1), still p d l (Branch m k' v' l' r') h.3)
 
--- below a link that no update has still to set, it matches at any link
+-- below a link that no update still has to set, it matches at any link
 pub moved : (u : Undone) (p q : ℕ) (d w : Side) (plain now : NamedTree) → ((was child : ℕ) → IsUnset u p d was child → ⊥) → Matches u p d plain now → Matches u q w plain now
 moved u p q d w Null Null settled h = inl tt
 moved u p q d w Null (Branch m k v l r) settled (inl h) = absurd h

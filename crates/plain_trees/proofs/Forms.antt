@@ -4,7 +4,7 @@ use Rattle.core_trees.specs.NamedTree.{NamedTree}
 use Rattle.plain_trees.specs.Points.{Meets}
 use Rattle.plain_trees.specs.Successors.{LeadsTo, LeadsFrom}
 
--- each node that the search for a point met is met still, or it is told of it
+-- each node that the search for a point met is still met, or `other` holds of it
 abbrev pub LeavesMet : ℕ → (ℕ → NamedTree → Type 0) → (NamedTree → NamedTree → Type 0) → Type 0
 LeavesMet x other change = (c : ℕ) (t u : NamedTree) → change t u → Meets x c t → Meets x c u ⊎ other c u
 

@@ -25,7 +25,7 @@ spelled-some g m c (Branch s k v l r) spelled i = elim (eqb_tells m s) as (λ _.
   ]
 ]
 
--- two children at which one tree hangs are one
+-- two children at which the same tree hangs are the same
 pub same-child : (g g' : Graph) (a b : ℕ) (t : NamedTree) → IsSpelled g a t → IsSpelled g' b t → a ≡ b
 same-child g g' a b Null one two = one ∙ sym two
 same-child g g' a b (Branch s k v l r) one two = one.0 ∙ sym two.0
@@ -54,7 +54,7 @@ stays-in u x there p d (Branch c k v l r) now (LiftedRight o h) =
 stays-in u x there p d (Branch c k v l r) now (LiftedLeft o h) =
     omega (arith, one_at-other x c (λ e. there (subst (IsOut u) (sym e) o)), null-occurs x r h.0, stays-in u x there p d l now h.3)
 
--- where no link of the tops is still to be set, both trees hang at the same child
+-- if no link of the tops is still to be set, both trees hang at the same child
 pub tops : (g h : Graph) (u : Undone) (p : ℕ) (d : Side) (x y : ℕ) (plain now : NamedTree)
     → ((was child : ℕ) → IsUnset u p d was child → (0 < was) × (occurs was plain ≡ 0)) → IsSpelled g x plain → IsSpelled h y now → Matches u p d plain now → x ≡ y
 tops g h u p d x y Null Null calm sp sn matches = sp ∙ sym sn

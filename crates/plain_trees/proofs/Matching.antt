@@ -1,5 +1,5 @@
--- A search that ends at a null link of the plain tree ends there in the tree at the stamp too, where the link's node is in that tree and no
--- update has still to set the link.
+-- A search that ends at a null link of the plain tree ends there in the tree at the stamp too, if the link's node is in
+-- that tree and no update still has to set the link.
 use Rattle.std.proofs.Common.{◌≡◌, ℕ, ◌<◌, ◌⊎◌, inl, inr, refl, sym, ◌∙◌, subst, arith}
 use Rattle.index_words.specs.declared.side.Side.{Side}
 use Rattle.index_words.specs.declared.side.Side.TheVariants.{Left, Right}

@@ -22,7 +22,7 @@ pub null-ends : (x node root : ℕ) (side top : Side) (t : NamedTree) → IsNull
 null-ends x node root side top Null _ h = h
 null-ends x node root side top (Branch _ _ _ _ _) n h = absurd n
 
--- a search that comes to the successor does so from each node that it meets
+-- a search that reaches the successor does so from each node that it meets
 pub leads-below : (bypassed : ℕ → Type 0) (x s c : ℕ) (t : NamedTree) → LeadsTo bypassed x s t → Meets x c t → LeadsFrom bypassed x s c t
 leads-below bypassed x s c Null leads meets = meets
 leads-below bypassed x s c (Branch m k v l r) leads (inl e) = inl (e, leads)
@@ -41,7 +41,7 @@ leads-sub g bypassed x s c a (Branch m k v l r) spelled (inl h) = (Branch m k v 
 leads-sub g bypassed x s c a (Branch m k v l r) spelled (inr (inl h)) = leads-sub g bypassed x s c (g.child Left m) l spelled.4 h
 leads-sub g bypassed x s c a (Branch m k v l r) spelled (inr (inr h)) = leads-sub g bypassed x s c (g.child Right m) r spelled.5 h
 
--- a search that comes to the successor ends at the successor, or at a node that is about to be bypassed
+-- a search that reaches the successor ends at the successor, or at a node that is about to be bypassed
 pub leads-ends : (bypassed : ℕ → Type 0) (x s node root : ℕ) (side top : Side) (t : NamedTree) → LeadsTo bypassed x s t → EndsAtNull x node side root top t
     → (node ≡ s) ⊎ bypassed node
 leads-ends bypassed x s node root side top Null leads ends = absurd leads
@@ -53,7 +53,7 @@ leads-ends bypassed x s node root side top (Branch m k v l r) (inr (inr past)) (
     inr (subst bypassed (sym (null-ends x node m side Left l past.1 left.1).0) past.0)
 leads-ends bypassed x s node root side top (Branch m k v l r) (inr (inr past)) (inr right) = leads-ends bypassed x s node m side Right r past.2 right.1
 
--- where more nodes are bypassed the ways stay
+-- if more nodes are bypassed the ways stay
 pub leads-keep : (bypassed bypassed' : ℕ → Type 0) (x s : ℕ) (t : NamedTree) → ((m : ℕ) → 0 < occurs m t → bypassed m → bypassed' m) → LeadsTo bypassed x s t → LeadsTo bypassed' x s t
 leads-keep bypassed bypassed' x s Null keeps h = h
 leads-keep bypassed bypassed' x s (Branch m k v l r) keeps (inl here) = inl here

@@ -82,7 +82,8 @@ remove-bounds : (key n slot : ℕ) → KeepsBounds key n (remove_here slot)
 remove-bounds key n slot = record { below = λ bound v l r all. joined-below bound slot l r all.1 all.2; above = λ bound v l r all. joined-above bound slot l r all.1 all.2 }
 
 module _ (u u' : Undone) (extends : Extends u u') where
-  -- the node `n`, whose key this is, is changed by `f`; no update has still u u' extends to set the link to it, which is then to be set to `new`
+  -- the node `n`, which has the key `key`, is changed by `f`; no update still has to set a link to it, and the changed
+  -- node matches at each link where `Item` holds of it
   module _ (key n : ℕ) (Item : ℕ → Side → NamedTree → Type 0) (f : NamedTree → NamedTree) (keeps : KeepsBounds key n f) (brings : (q : ℕ) (w : Side) (was : ℕ) → IsUnset u q w was n → ⊥)
       (here : (low high p k v v' : ℕ) (d : Side) (l r l' r' : NamedTree) → key ≡ k → IsWithin low high (Branch n k v' l' r') → Matches u n Left l l'
       → Matches u n Right r r' → Item p d (Branch n k v' l' r') → Matches u' p d (Branch n k v l r) (f (Branch n k v' l' r'))) where
@@ -225,7 +226,8 @@ module _ (u u' : Undone) (extends : Extends u u') where
         )
     firsts low high p d _ _ h within first linked = absurd first
 
-  -- the removed node, by its children: it is bypassed to its right or to its left, or a copy takes its place, and then its successor is bypassed
+  -- the removed node, by its children: it is bypassed to its right or to its left, or a copy takes its place, and then
+  -- its successor is bypassed
   module _ (key n slot : ℕ) (left-settled : (was child : ℕ) → IsUnset u n Left was child → ⊥) (right-settled : (was child : ℕ) → IsUnset u n Right was child → ⊥) where
     pub lifted-right : (gone : IsOut u' n) (new low high p k v v' : ℕ) (d : Side) (l r r' : NamedTree) → IsBypassed u' n → IsWithin low high (Branch n k v' Null r') → Matches u n Left l Null
         → Matches u n Right r r' → IsUnset u' p d n new → Matches u' p d (Branch n k v l r) (remove_here slot (Branch n k v' Null r'))

@@ -11,8 +11,8 @@ use Rattle.plain_trees.specs.Matching.{Undone, IsUnset, IsBypassed, IsOrderly, H
 use Rattle.plain_trees.specs.Settling.{IsNew, Sets, MaySet}
 use Rattle.plain_trees.proofs.Points.{leads-keep}
 
--- the tables before the store and after it, what is still to be done then, the plain tree and the tree at the stamp, and the link with
--- what it held and holds
+-- the tables before the store and after it, what is still to be done then, the plain tree and the tree at the stamp,
+-- and the link with what it held and what it holds
 pub record Setting : Type 0 where
   pub g : Graph
   pub g' : Graph
@@ -40,7 +40,7 @@ module _ (S : Setting) where
   pub apart : (m k v : ℕ) (d : Side) (l r : NamedTree) → occurs q (Branch m k v l r) ≡ 0 → ¬ ((m ≡ q) × (d ≡ w))
   apart m k v d l r o e = absurd (omega (arith, o, subst (λ z. 0 < occurs z (Branch m k v l r)) e.0 (omega (arith, one_at-same m))))
 
-  -- where the child is new in the plain tree, it is not there
+  -- if the child is new in the plain tree, it is not there
   abbrev pub Clear : ℕ → NamedTree → Type 0
   Clear p now = IsNew child W → (¬ (p ≡ child)) × (occurs child now ≡ 0)
 
@@ -94,7 +94,7 @@ module _ (S : Setting) where
   away p d (Branch c k v l r) (Branch m k' v' l' r') ne o clear (LiftedLeft i e) =
       LiftedLeft (may.outs c i) (e.0, e.1, (e.2.0, rest-kept p d c e.2.0 ne (λ n. (clear n).0) e.2.1), away p d l (Branch m k' v' l' r') ne o clear e.3)
 
-  -- the tops are one node
+  -- the tops are the same node
   pub same-top : (c m k v : ℕ) (l r l' r' : NamedTree) → occurs q (Branch m k v l' r') ≡ 0 → (IsNew child W → occurs child (Branch m k v l' r') ≡ 0)
       → {key : ℕ} → (m ≡ c) × (k ≡ key) × Matches u c Left l l' × Matches u c Right r r' → (m ≡ c) × (k ≡ key) × Matches u' c Left l l' × Matches u' c Right r r'
   same-top c m k v l r l' r' o clear e = (
@@ -104,7 +104,7 @@ module _ (S : Setting) where
     away c Right r r' (λ z. apart m k v Right l' r' o (e.0 ∙ z.0, z.1)) (omega (arith, o)) (clear-right m c k v l' r' e.0 clear) e.3,
   )
 
-  -- where no link of the tops is to be set, they match as they are
+  -- if no link of the tops is to be set, they match as they are
   pub quiet : (p : ℕ) (d : Side) (plain now : NamedTree) → ((b i : ℕ) → IsUnset u p d b i → (0 < b) × (occurs b plain ≡ 0)) → occurs q now ≡ 0
       → (IsNew child W → occurs child now ≡ 0) → Matches u p d plain now → Matches u' p d plain now
   quiet p d Null Null calm o clear e = inl tt

@@ -51,7 +51,7 @@ module _ (S : Setting) where
   off-left m l' r' one (inr aim) =
       (λ e. absurd (omega (arith, one, aim, subst (λ z. one_at q z ≡ 1) (sym e.0) (one_at-same q))), omega (arith, one, aim))
 
-  -- a node below which nothing hangs where the link is was not taken out
+  -- a node below which nothing hangs at the place of the link was not taken out
   pub there-left : (slot m : ℕ) (l l' : NamedTree) → Known S slot Left m Left l l' → (0 < occurs q N → 0 < occurs q W) → ((m ≡ q) × (Left ≡ w)) ⊎ (0 < occurs q l') → IsNull l → ¬ IsOut u slot
   there-left slot m l l' known inw (inl aim) n out = may.there (subst (IsOut u) (known.here aim.0 aim.1).0 out)
   there-left slot m l l' known inw (inr aim) n out = absurd (omega (arith, aim, null-occurs q l n, known.counts q (inw (known.within q aim)) may.there))

@@ -45,8 +45,9 @@ module _ (S : Setting) where
   abbrev pub IsPassed : ℕ → Type 0
   IsPassed x = IsNew child W × ((i : ℕ) × IsUnset u child Right x i)
 
-  -- How often each node stands in the tree before the store and after it: the child alone may come, what goes is gone, and what
-  -- was not taken out stays. Another node than that which the link held goes only where a copy passes over it.
+  -- How often each node occurs in the tree before the store and after it: only the child may be added, what goes is
+  -- gone, and what was not taken out stays. A node other than the one which the link held goes only if a copy passes
+  -- over it.
   pub record Counts (old new : NamedTree) : Type 0 where
     pub brings : (x : ℕ) → occurs x new ≤ occurs x old + one_at x child
     pub keeps : (x : ℕ) → 0 < occurs x W → occurs x new ≤ occurs x old
@@ -111,7 +112,7 @@ module _ (S : Setting) where
     leaves = λ x ne less. absurd (omega (arith, less, is x, one_at-other x c (λ e. ne (e ∙ slot))));
   }
 
-  -- the way to a successor stays, if the successor is not the node that goes out
+  -- the way to a successor stays, unless the successor is the node that goes out
   pub form-leads : (r r' : NamedTree) (x s : ℕ) → IsOut u s → ¬ (s ≡ was) → Form r r' → LeadsTo (IsBypassed u) x s r → LeadsTo (IsBypassed u) x s r'
   form-leads r r' x s out ne (grown re) =
       leads-on (λ m. ¬ IsOut u m) (IsBypassed u) x s Grows (λ f. f out) (λ m f b. f (orderly.passes m b)) (grows-leads (IsBypassed u) x s) r r' re

@@ -18,8 +18,8 @@ use Rattle.plain_trees.proofs.SetForms.{Form, Counts}
 module _ (S : Setting) where
   open S use {g, g', h, u, u', W, N, q, w, was, child, sets, may}
 
-  -- What is known of a subtree of the plain tree, which hangs at the plain link of `a` on `e`, and of the subtree of the tree at the
-  -- stamp, which hangs there at the link of `p` on `d`.
+  -- What is known of a subtree of the plain tree, which hangs at the plain link of `a` on `e`, and of the subtree of
+  -- the tree at the stamp, which hangs there at the link of `p` on `d`.
   pub record Known (a : ℕ) (e : Side) (p : ℕ) (d : Side) (plain now : NamedTree) : Type 0 where
     pub spelled : IsSpelled g (g.child e a) plain
     pub asked : IsSpelled h (h.child d p) now
@@ -43,7 +43,7 @@ module _ (S : Setting) where
   is-new m a p e d plain now known there more =
       elim (eqb_tells (occurs m W) 0) as (λ _. occurs m W ≡ 0) [ inl z ↦ z.1 | inr z ↦ absurd (omega (arith, more, known.counts m (omega (arith, z.1)) there)) ]
 
-  -- so it is with the top of the tree at the stamp, where the plain tree has a node that was taken out
+  -- the same holds of the top of the tree at the stamp, if the plain tree has a node there that was taken out
   pub new-at : (c k v m k' v' : ℕ) (l r l' r' : NamedTree) → Known q w q w (Branch c k v l r) (Branch m k' v' l' r') → IsOut u c → Matches u m Left l l' → Matches u m Right r r'
       → occurs m W ≡ 0
   new-at c k v m k' v' l r l' r' known out ml mr =
@@ -66,7 +66,7 @@ module _ (S : Setting) where
       subst (λ z. IsSpelled g' z t) (tops g h u m d x (h.child d m) t now calm spelled asked matches ∙ sym (new-child m ne is fresh d))
       (framed S x t o spelled)
 
-  -- the links of the child that count as to be set, where it is new
+  -- the links of the child that count as to be set, if it is new
   pub near : (m : ℕ) → h.child w q ≡ m → 0 < m → occurs m W ≡ 0 → (d : Side) (b i : ℕ) → IsUnset u m d b i → PassesOver g W was m may.near d b i
   near m e some fresh d b i =
       let is : child ≡ m = sym sets.asked ∙ e in
@@ -85,7 +85,7 @@ module _ (S : Setting) where
   pub apart-new : (m k v : ℕ) (l r : NamedTree) → occurs q (Branch m k v l r) ≡ 0 → ¬ (m ≡ q)
   apart-new m k v l r o e = absurd (omega (arith, o, subst (λ z. 0 < occurs z (Branch m k v l r)) e (omega (arith, one_at-same m))))
 
-  -- a child that hangs in the plain tree already is not new
+  -- a child that already hangs in the plain tree is not new
   pub lifted-in : (x : ℕ) (t : NamedTree) → x ≡ child → IsSpelled g x t → ((y : ℕ) → 0 < occurs y t → 0 < occurs y W) → IsNew child W → ⊥
   lifted-in x Null e spelled within new = absurd (omega (arith, e, spelled, new.0))
   lifted-in x (Branch c k v l r) e spelled within new =

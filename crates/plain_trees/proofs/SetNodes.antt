@@ -17,7 +17,8 @@ use Rattle.plain_trees.proofs.SetKnown.{is-new, new-at, top-child, new-child, ne
 module _ (S : Setting) where
   open S use {g, g', h, u, u', W, N, q, w, was, child, sets, may, moves}
 
-  -- what hangs to the right of a copy: the successor goes too, where it is near S
+  -- what hangs to the right of a copy: the right tree, or the right tree without the successor, if the successor goes
+  -- too
   pub data RightKid (m key : ℕ) (r now : NamedTree) : Type 0 where
     keeps-right : IsSpelled g' (g'.child Right m) r → Matches u' m Right r now → RightKid m key r now
     passes-right : (v : ℕ) (rest : NamedTree) → r ≡ Branch may.near key v Null rest → IsOut u may.near → g.key was < key → occurs may.near rest ≡ 0

@@ -1,4 +1,5 @@
--- A plain link is set: the plain tree after it matches the tree at the stamp without that link among those that are still to be set.
+-- A plain link is set: the plain tree after it matches the tree at the stamp without that link among those still to be
+-- set.
 use Rattle.std.proofs.Common.{◌≡◌, ℕ, ◌+◌, ◌<◌, ◌≤◌, ◌⊎◌, inl, inr, ap, sym, ◌∙◌, subst, arith}
 use Rattle.std.proofs.lemmas.Bool.Decides.{eqb_tells}
 use Rattle.index_words.specs.declared.side.Side.{Side}

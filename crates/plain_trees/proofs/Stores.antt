@@ -15,7 +15,7 @@ use Rattle.plain_trees.proofs.Points.{from-keep}
 
 module _ (g g' : Graph) (there : ℕ → Bool) (u u' : Undone) (waits waits' : ℕ → ℕ → Bool) (plain plain' : NamedTree)
     (n s from until x : ℕ) (h : Stores g g' there u u' waits waits' plain plain' n s from until) where
-  -- told of a node: it goes out, or the search comes from it to the copied successor
+  -- what is said of a node: it goes out, or the search reaches the copied successor from it
   rises : Rises (λ c t. (occurs c plain' ≡ 0) ⊎ ((point_of (g.key n) < x) × LeadsFrom (IsBypassed u) x s c t))
   rises c m k v l r = (
     λ o. elim o as (λ _. (occurs c plain' ≡ 0) ⊎ ((point_of (g.key n) < x) × LeadsFrom (IsBypassed u) x s c (Branch m k v l r))) [ inl out ↦ inl out | inr d ↦ inr (d.0, inr (inl d.1)) ],

@@ -1,4 +1,4 @@
--- How a search turns, and what a store leaves of what leads below a turn.
+-- How a search turns, and what still leads below a turn after a store.
 use Rattle.std.proofs.Common.{◌≡◌, ℕ, ◌<◌, List, [], ◌∷◌, arith, refl, ap, ◌∙◌, sym, subst, inl, inr}
 use Rattle.std.proofs.lemmas.Bool.{cases_lt}
 use Rattle.index_words.specs.declared.side.Side.{Side}
@@ -68,7 +68,7 @@ module _ (g : Graph) where
     | inr (inr right) ↦ inr (inr (own_below side k (g.child Right s) r is.5 right some))
   ]
 
--- a path begins at a node where it ends at one, and ends where it begins where that is in the tree
+-- a path begins at a node if it ends at one, and ends where it begins if that is in the tree
 path_some : (g : Graph) (plain : NamedTree) (nodes : List ℕ) (from to : ℕ) → IsPath g plain nodes from to → 0 < to → 0 < from
 path_some g plain [] from to way some = omega (arith, way, some)
 path_some g plain (n ∷ ns) from to way some = omega (arith, way.0, way.1)
@@ -103,7 +103,7 @@ module _ (g : Graph) (plain : NamedTree) (spelled : IsSpelled g (g.child Right 0
         | inr out ↦ leads in_tree (node ∷ nodes) end (path_on g plain to node nodes end some (omega (arith, out)) way) here
       ]
 
--- links that a store leaves: a path outside of the tree after it
+-- links that stay at a store: a path outside of the tree after it
 module _ (g g' : Graph) (plain plain' : NamedTree) (spelled : IsSpelled g (g.child Right 0) plain)
     (links : (m : ℕ) → 0 < m → occurs m plain' ≡ 0 → (side : Side) → g'.child side m ≡ g.child side m) (turn turn_key : ℕ) (at : Side) where
   abbrev Below : ℕ → Type 0
@@ -135,7 +135,7 @@ module _ (g g' : Graph) (plain plain' : NamedTree) (spelled : IsSpelled g (g.chi
   leads_on side n some out' out leads nodes to way here =
       leads (n ∷ nodes) to (path_on g plain side n nodes to some out (subst (λ c. IsPath g plain nodes c to) (links n some out' side) way)) here
 
-  -- from a node that is out of the tree before it, until it comes to that tree
+  -- from a node that is out of the tree before it, until it reaches that tree
   walk_out : (nodes : List ℕ) (from to : ℕ) → 0 < to → 0 < occurs to plain → IsPath g' plain' nodes from to → Leads from → Below to
   walk_out [] from to end here way leads = leads [] to way here
   walk_out (n ∷ ns) from to end here (e, some, out, way) leads = elim (cases_lt 0 (occurs n plain)) as (λ _. Below to) [

@@ -13,7 +13,7 @@ use Rattle.plain_trees.specs.Walks.{low_turn, high_turn, BeginLaw, WalkLaw}
 use Rattle.plain_trees.proofs.Points.{leads-in}
 use Rattle.plain_trees.proofs.Ways.{meets-in, top-meets, on-left, on-right}
 
--- a node of the plain tree of which it is told
+-- a node of the plain tree that the search meets, or at which the point is excepted
 told-claims : (g : Graph) (bypassed : ℕ → Type 0) (waits : ℕ → ℕ → Type 0) (plain : NamedTree) (x a : ℕ)
     → Meets x a plain ⊎ IsExcepted g bypassed waits plain x a → Claims g bypassed waits plain x a
 told-claims g bypassed waits plain x a h [] c way o = subst (λ z. Meets x z plain ⊎ IsExcepted g bypassed waits plain x z) way h
@@ -38,7 +38,8 @@ walks-right g bypassed waits plain x a spelled claims some on there =
       | inr ne ↦ told-claims g bypassed waits plain x (g.child Right a) (on-right g bypassed waits plain x spelled a (claims [] a refl (omega (arith, ne.1))) on there)
     ]
 
--- with the turn to this side at a key between the turns, each point between the new turns is between the old ones, and on this side
+-- after a turn to this side at a key between the turns, each point between the new turns is between the old ones, and
+-- on this side
 narrows : (side : Side) (key : ℕ) (low high : Option ℕ) (x : ℕ) → IsInTurns low high (point_of key) → IsInTurns (low_turn side key low) (high_turn side key high) x
     → IsInTurns low high x × IsOn side key x
 narrows Left key low None x inside new = ((new.0, tt), new.1)

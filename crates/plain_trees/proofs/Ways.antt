@@ -70,12 +70,12 @@ module _ (g : Graph) (x c : ℕ) where
   from-right bypassed s a (Branch m k v l r) spelled (inl (e, inr (inr past))) on some =
       inr (inr (subst (λ z. LeadsFrom bypassed x s (g.child Right z) r) (sym e) (top-from bypassed s (g.child Right m) r spelled.5 past.2)))
 
--- where a way goes on it goes on to a node
+-- if a way goes on, it goes on to a node
 way-some : (g : Graph) (plain : NamedTree) (x a c : ℕ) (ms : List ℕ) → IsWay g plain x ms a c → 0 < c → 0 < a
 way-some g plain x a c [] way some = omega (arith, way, some)
 way-some g plain x a c (m ∷ ms) way some = omega (arith, way.0, way.1)
 
--- what is told of a node of the plain tree is told of its child on the point's side
+-- what is said of a node of the plain tree is said of its child on the point's side
 module _ (g : Graph) (bypassed : ℕ → Type 0) (waits : ℕ → ℕ → Type 0) (plain : NamedTree) (x : ℕ) (spelled : IsSpelled g (g.child Right 0) plain) where
   pub on-left : (m : ℕ) → Meets x m plain ⊎ IsExcepted g bypassed waits plain x m → x < point_of (g.key m) → 0 < g.child Left m
       → Meets x (g.child Left m) plain ⊎ IsExcepted g bypassed waits plain x (g.child Left m)

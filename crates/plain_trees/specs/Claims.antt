@@ -1,5 +1,5 @@
--- What a search on plain links claims of the place where it stands. The nodes of its way may be out of the plain tree by
--- then; what holds is said of the nodes at which the way comes to the plain tree.
+-- What a search on plain links claims of the place where it stands. The nodes on its way may be out of the plain tree
+-- by then; what holds is said of the nodes at which the way reaches the plain tree.
 use Rattle.std.specs.Prelude.{◌≡◌, ℕ, ◌<◌, ◌⊎◌, List, [], ◌∷◌, Option, Bool, true}
 use Rattle.index_words.specs.declared.side.Side.TheVariants.{Left, Right}
 use Rattle.core_trees.specs.NamedTree.{NamedTree}
@@ -16,11 +16,12 @@ IsWay g plain x (node ∷ nodes) from to =
     × (((x < point_of (g.key node)) × IsWay g plain x nodes (g.child Left node) to)
     ⊎ ((point_of (g.key node) < x) × IsWay g plain x nodes (g.child Right node) to))
 
--- a removal that has not passed this seat yet took out the first node, and has still to unlink the second, its successor
+-- a removal that has not passed this seat yet took out the first node, and still has to unlink the second, its
+-- successor
 abbrev pub IsWaiting : (ℕ → ℕ → Bool) → ℕ → ℕ → Type 0
 IsWaiting waits removed successor = waits removed successor ≡ true
 
--- From the node on the search comes to the successor of a removal that waits, and the point is above the removed key.
+-- From the node on the search reaches the successor of a removal that waits, and the point is above the removed key.
 pub record IsExcepted (g : Graph) (bypassed : ℕ → Type 0) (waits : ℕ → ℕ → Type 0) (plain : NamedTree) (x node : ℕ) : Type 0 where
   pub removed : ℕ
   pub successor : ℕ
@@ -28,8 +29,8 @@ pub record IsExcepted (g : Graph) (bypassed : ℕ → Type 0) (waits : ℕ → �
   pub above : point_of (g.key removed) < x
   pub leads : LeadsFrom bypassed x successor node plain
 
--- where the search for the point from `from` on comes to the plain tree, the search from the root on comes there too, or
--- the point is excepted there
+-- if the search for the point from `from` on reaches the plain tree, the search from the root on reaches it at the same
+-- node, or the point is excepted there
 abbrev pub Claims : Graph → (ℕ → Type 0) → (ℕ → ℕ → Type 0) → NamedTree → ℕ → ℕ → Type 0
 Claims g bypassed waits plain x from =
     (nodes : List ℕ) (node : ℕ) → IsWay g plain x nodes from node → 0 < occurs node plain

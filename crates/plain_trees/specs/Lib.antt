@@ -1,3 +1,5 @@
+-- The definitions of this crate, by file.
+
 pub mod Points
 pub mod Successors
 pub mod Matching

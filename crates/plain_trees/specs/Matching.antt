@@ -8,12 +8,12 @@ use Rattle.core_trees.specs.Gaps.{IsNull}
 use Rattle.plain_trees.specs.Points.{point_of}
 use Rattle.plain_trees.specs.Successors.{LeadsTo}
 
--- What updates that have raised have still to do. `unset parent side was child`: one has still to set the link of `parent`
--- on `side`, from `was` to `child`. Where a copy's successor was the right child of the removed node, the copy's right link
--- passes over it from the start; until the copy is linked, that link counts as one to be set from the successor.
--- `out`: an update took the node out of the tree at the stamp. `bypassed`: the node has no left child, and the link to it
--- is still to be set to its right child. `heir removed successor`: a removal took out both, and puts a copy of the
--- successor in the place of the removed node.
+-- What updates that have raised still have to do. `unset parent side was child`: one still has to set the link of
+-- `parent` on `side`, from `was` to `child`. If a copy's successor was the right child of the removed node, the copy's
+-- right link passes over it from the start; until the copy is linked, that link counts as one to be set from the
+-- successor. `out`: an update took the node out of the tree at the stamp. `bypassed`: the node has no left child, and
+-- the link to it is still to be set to its right child. `heir removed successor`: a removal took out both, and puts a
+-- copy of the successor in the place of the removed node.
 pub record Undone : Type 0 where
   pub unset : ℕ → Side → ℕ → ℕ → Bool
   pub out : ℕ → Bool
@@ -37,7 +37,7 @@ pub record IsOrderly (u : Undone) : Type 0 where
   pub passes : (node : ℕ) → IsBypassed u node → IsOut u node
   pub heirs : (removed successor : ℕ) → IsHeir u removed successor → IsOut u successor
 
--- the tree has a top, of which this is told
+-- the tree has a top, of which this holds
 abbrev pub IsTop : (ℕ → ℕ → NamedTree → NamedTree → Type 0) → NamedTree → Type 0
 IsTop told Null = ⊥
 IsTop told (Branch slot key val left right) = told slot key left right
@@ -50,13 +50,13 @@ abbrev pub AllAbove : ℕ → NamedTree → Type 0
 AllAbove bound Null = Unit {0}
 AllAbove bound (Branch slot key val left right) = (bound < key) × AllAbove bound left × AllAbove bound right
 
--- each search for a point above the key `from` and at most `until` comes to the successor of the removed node
+-- each search for a point above the key `from` and at most `until` reaches the successor of the removed node
 abbrev pub HasWayAhead : Undone → ℕ → ℕ → ℕ → NamedTree → Type 0
 HasWayAhead u removed from until tree =
     (successor : ℕ) × IsHeir u removed successor
     × ((x : ℕ) → point_of from < x → x ≤ point_of until → LeadsTo (IsBypassed u) x successor tree)
 
--- A node of the plain tree is the same one in the tree at the stamp; or an update took it out, and has still to set the
+-- A node of the plain tree is the same one in the tree at the stamp; or an update took it out, and still has to set the
 -- link to it: to a node with the same key, to a copy of its successor, to its right child, or to its left child.
 pub data NodeCase (same out replaced copied right left : Type 0) : Type 0 where
   Same : same → NodeCase same out replaced copied right left
@@ -65,8 +65,8 @@ pub data NodeCase (same out replaced copied right left : Type 0) : Type 0 where
   LiftedRight : out → right → NodeCase same out replaced copied right left
   LiftedLeft : out → left → NodeCase same out replaced copied right left
 
--- The plain tree hangs where `now`, the tree at the stamp, hangs at the link of `parent` on `side`. Links are named as they
--- are in the tree at the stamp: below a node that was taken out the plain one is another.
+-- The plain tree matches `now`, the tree at the stamp, at the link of `parent` on `side`. Links are named as they are
+-- in the tree at the stamp: below a node that was taken out the plain link is another one.
 abbrev pub Matches : Undone → ℕ → Side → NamedTree → NamedTree → Type 0
 Matches u parent side Null now = IsNull now ⊎ IsTop (λ m k l r. IsNull l × IsNull r × IsUnset u parent side 0 m) now
 Matches u parent side (Branch slot key val left right) now =

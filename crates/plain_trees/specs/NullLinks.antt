@@ -15,8 +15,8 @@ abbrev pub turn_of : Side → Option ℕ → Option ℕ → Option ℕ
 turn_of Left low high = high
 turn_of Right low high = low
 
--- A null link at which a search has ended: its node is the turn of that side, but for the root. The node was not taken out,
--- and no update has still to set the link; an unmarked node that no other seat has locked is such a one.
+-- A null link at which a search has ended: its node is the turn of that side, except for the root. The node was not
+-- taken out, and no update still has to set the link; an unmarked node that no other seat has locked is such a node.
 pub record EndedAt (g : Graph) (u : Undone) (waits : ℕ → ℕ → Bool) (plain : NamedTree) (node : ℕ) (side : Side) (low high : Option ℕ) : Type 0 where
   pub there : ¬ IsOut u node
   pub reached : (node ≡ 0) ⊎ (0 < occurs node plain)

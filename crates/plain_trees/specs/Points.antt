@@ -5,7 +5,7 @@ use Rattle.index_words.specs.declared.side.Side.{Side}
 use Rattle.index_words.specs.declared.side.Side.TheVariants.{Left, Right}
 use Rattle.core_trees.specs.NamedTree.{NamedTree, Null, Branch}
 
--- the point at which a key stands
+-- the point of a key
 abbrev pub point_of : ℕ → ℕ
 point_of key = key + key
 
@@ -15,7 +15,8 @@ Meets x node Null = ⊥
 Meets x node (Branch slot key val left right) =
     (node ≡ slot) ⊎ (((x < point_of key) × Meets x node left) ⊎ ((point_of key < x) × Meets x node right))
 
--- the search for the point ends at the null link of `node` on `side`, in a tree that hangs at the link of `root` on `top`
+-- the search for the point ends at the null link of `node` on `side`, in a tree that hangs at the link of `root` on
+-- `top`
 abbrev pub EndsAtNull : ℕ → ℕ → Side → ℕ → Side → NamedTree → Type 0
 EndsAtNull x node side root top Null = (node ≡ root) × (side ≡ top)
 EndsAtNull x node side root top (Branch slot key val left right) =
@@ -26,8 +27,8 @@ abbrev pub IsOn : Side → ℕ → ℕ → Type 0
 IsOn Left key x = x < point_of key
 IsOn Right key x = point_of key < x
 
--- A search keeps the keys of the nodes at which it last turned right (`low`) and last turned left (`high`). The point is
--- strictly between the two; a turn that was not made yet is no bound.
+-- A search keeps the keys of the nodes at which it last turned right (`low`) and last turned left (`high`). The point
+-- is strictly between the two; a turn that was not made yet is no bound.
 abbrev pub IsAbove : Option ℕ → ℕ → Type 0
 IsAbove None x = Unit {0}
 IsAbove (Some key) x = point_of key < x

@@ -9,19 +9,20 @@ use Rattle.plain_trees.specs.Points.{point_of, EndsAtNull}
 use Rattle.plain_trees.specs.Successors.{LeadsTo}
 use Rattle.plain_trees.specs.Matching.{Undone, IsUnset, IsOut, IsBypassed, IsHeir, IsOrderly, Matches}
 
--- the second has still to do all that the first has
+-- the second still has to do all that the first has to do
 pub record Extends (u u' : Undone) : Type 0 where
   pub links : (parent : ℕ) (side : Side) (was child : ℕ) → IsUnset u parent side was child → IsUnset u' parent side was child
   pub outs : (node : ℕ) → IsOut u node → IsOut u' node
   pub passes : (node : ℕ) → IsBypassed u node → IsBypassed u' node
   pub heirs : (removed successor : ℕ) → IsHeir u removed successor → IsHeir u' removed successor
 
--- no update has still to set a link to the node, nor one of its links: so it is with a node that was locked, and the link to it
+-- no update still has to set a link to the node, or a link of the node: this holds if the node and the link to it were
+-- locked
 pub record IsSettled (u : Undone) (node : ℕ) : Type 0 where
   pub brings : (parent : ℕ) (side : Side) (was : ℕ) → ¬ IsUnset u parent side was node
   pub links : (side : Side) (was child : ℕ) → ¬ IsUnset u node side was child
 
--- the search for the key comes to the node, which has it
+-- the search for the key reaches the node, which has the key
 abbrev pub IsFoundAt : ℕ → ℕ → NamedTree → Type 0
 IsFoundAt key node Null = ⊥
 IsFoundAt key node (Branch slot k val left right) =
@@ -38,8 +39,8 @@ abbrev pub IsFirst : ℕ → ℕ → NamedTree → Type 0
 IsFirst node key Null = ⊥
 IsFirst node key (Branch slot k val left right) = (IsNull left × (slot ≡ node) × (k ≡ key)) ⊎ IsFirst node key left
 
--- Before a removal with two children raises, each search for a point up to the successor's comes to it in the plain tree,
--- below the removed node.
+-- Before a removal with two children raises, each search for a point up to the successor's reaches it in the plain
+-- tree, below the removed node.
 abbrev pub AheadLaw : Type 0
 AheadLaw =
     (u : Undone) (parent successor key low high x : ℕ) (side : Side) (plain now : NamedTree)
@@ -63,7 +64,7 @@ ReplaceLaw =
     → Matches u' 0 Right plain (tree_put slot key val now)
 
 -- The successor in the right tree below a copy in the slot `copy`: it was settled, is taken out too, and is still to be
--- bypassed, at the link to it. That is the copy's own right link where the successor is the top of the tree.
+-- bypassed, at the link to it. That is the copy's own right link if the successor is the top of the tree.
 pub record LeavesSuccessor (u u' : Undone) (removed copy successor : ℕ) (right : NamedTree) : Type 0 where
   pub settled : IsSettled u successor
   pub out : IsOut u' successor

@@ -6,7 +6,7 @@ use Rattle.core_trees.specs.NamedTree.{NamedTree}
 use Rattle.core_trees.specs.SpelledTree.{Graph, IsSpelled}
 use Rattle.plain_trees.specs.Matching.{Undone, IsUnset, Matches}
 
--- where no update has still to set a link, the two trees are one, down to the values
+-- if no update still has to set a link, the two trees are the same, including the values
 abbrev pub RestLaw : Type 0
 RestLaw =
     (g now_links : Graph) (u : Undone) (plain now : NamedTree)

@@ -1,6 +1,6 @@
--- What a store of a plain link does: the link that an update has still to set is set to the child that the tree at the stamp
--- has there. The plain tree after it is spelled, matches the tree at the stamp without that link, and came by a store of one
--- of the forms.
+-- What a store of a plain link does: the link that an update still has to set is set to the child that the tree at the
+-- stamp has there. The plain tree after it is spelled, matches the tree at the stamp without that link among those
+-- still to be set, and results from a store of one of the forms.
 use Rattle.std.specs.Prelude.{◌≡◌, ℕ, ◌<◌, ◌⊎◌}
 use Rattle.index_words.specs.declared.side.Side.{Side}
 use Rattle.index_words.specs.declared.side.Side.TheVariants.{Left, Right}
@@ -26,9 +26,9 @@ pub record Sets (g g' now_links : Graph) (node : ℕ) (side : Side) (was child :
 abbrev pub IsNew : ℕ → NamedTree → Type 0
 IsNew node plain = (0 < node) × (occurs node plain ≡ 0)
 
--- The link of a copy that counts as one to be set while the copy is not linked: its right one, which passes over the successor
--- from the start, since the successor was the right child of the removed node. The two have one key, above the removed
--- node's. The successor has no left child, and what hangs behind it is in the plain tree.
+-- The link of a copy that counts as one to be set while the copy is not linked: its right link, which passes over the
+-- successor from the start, since the successor was the right child of the removed node. The two have the same key,
+-- above the removed node's. The successor has no left child, and what hangs below it is in the plain tree.
 pub record PassesOver (g : Graph) (plain : NamedTree) (removed copy successor : ℕ) (side : Side) (was child : ℕ) : Type 0 where
   pub place : side ≡ Right
   pub some : 0 < successor
@@ -38,11 +38,11 @@ pub record PassesOver (g : Graph) (plain : NamedTree) (removed copy successor : 
   pub bare : g.child Left successor ≡ 0
   pub behind : 0 < child → 0 < occurs child plain
 
--- The link is one of the plain tree, and its node was not taken out. It is still to be set, from `was`, by one update alone,
--- and after the store all but it are, and but those of the child where it is new. A node of the tree at the stamp that is not
--- in the plain tree yet has its children there already. A new child has no links to be set, but where it is a copy of a
--- successor that goes at the same time. In the place of a bypassed node no new node comes to hang. A successor is unlinked
--- only after its copy was linked.
+-- The link is one of the plain tree, and its node was not taken out. It is still to be set, from `was`, by one update
+-- alone. After the store all other links that were to be set still are, except those of the child if it is new. A node
+-- of the tree at the stamp that is not in the plain tree yet already has its children there. A new child has no links
+-- to be set, unless it is a copy of a successor that goes at the same time. No new node takes the place of a bypassed
+-- node. A successor is unlinked only after its copy was linked.
 pub record MaySet (g now_links : Graph) (u u' : Undone) (plain now : NamedTree) (node : ℕ) (side : Side) (was child : ℕ) : Type 0 where
   pub link : IsLinkIn 0 Right plain node side
   pub there : ¬ IsOut u node
@@ -64,8 +64,9 @@ abbrev pub IsCopy : {there bypassed : ℕ → Type 0} {n s from until : ℕ} {ol
 IsCopy (Copy firm re) = Unit {0}
 IsCopy _ = ⊥
 
--- The plain tree after the store: the child alone may have come, what the link held is gone, and what was not taken out stays.
--- What else goes is a successor over which a copy passes. A copy of a successor that stays has the same right child as the removed node.
+-- The plain tree after the store: only the child may be added, what the link held is gone, and what was not taken out
+-- stays. Otherwise only a successor over which a copy passes is gone. A copy of a successor that stays has the same
+-- right child as the removed node.
 pub record IsSet (g g' : Graph) (u u' : Undone) (plain now plain' : NamedTree) (was child : ℕ) : Type 0 where
   pub spelled : IsSpelled g' (g'.child Right 0) plain'
   pub matches : Matches u' 0 Right plain' now

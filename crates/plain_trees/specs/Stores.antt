@@ -1,5 +1,5 @@
--- The law on stores of plain links: what a search claims of its place stays. A store changes one subtree of the plain tree,
--- in one of six forms.
+-- The law on stores of plain links: what a search claims of its place stays. A store changes one subtree of the plain
+-- tree, in one of six forms.
 use Rattle.std.specs.Prelude.{◌≡◌, ℕ, ◌<◌, ◌≤◌, ◌⊎◌, List, Bool, true}
 use Rattle.index_words.specs.declared.side.Side.{Side}
 use Rattle.index_words.specs.declared.side.Side.TheVariants.{Right}
@@ -12,8 +12,8 @@ use Rattle.plain_trees.specs.Successors.{LeadsTo}
 use Rattle.plain_trees.specs.Matching.{Undone, IsBypassed}
 use Rattle.plain_trees.specs.Claims.{IsWay, IsWaiting, Claims}
 
--- The second tree is the first one but for one subtree, which is changed as told. Where nothing hung there, the node above
--- is one of the tree at the stamp (`there`).
+-- The second tree is the first one except for one subtree, which is changed as said. If nothing hung there, the node
+-- above is one of the tree at the stamp (`there`).
 abbrev pub Relinks : (ℕ → Type 0) → (NamedTree → NamedTree → Type 0) → NamedTree → NamedTree → Type 0
 Relinks there change Null new = change Null new
 Relinks there change (Branch slot key val left right) new =
@@ -29,7 +29,7 @@ pub record Grows (old new : NamedTree) : Type 0 where
   pub was : old ≡ Null
   pub is : new ≡ Branch slot key val Null Null
 
--- a node with the same key and the same children hangs in the place of the node `n`
+-- a node with the same key and the same children takes the place of the node `n`
 pub record Replaces (n : ℕ) (old new : NamedTree) : Type 0 where
   pub slot : ℕ
   pub key : ℕ
@@ -40,19 +40,19 @@ pub record Replaces (n : ℕ) (old new : NamedTree) : Type 0 where
   pub was : old ≡ Branch n key old_val left right
   pub is : new ≡ Branch slot key val left right
 
--- the right child hangs in the place of the node, which has no left child: so a successor is unlinked, too
+-- the right child takes the place of the node, which has no left child: a successor is unlinked in this way too
 pub record LiftsRight (n : ℕ) (old new : NamedTree) : Type 0 where
   pub key : ℕ
   pub val : ℕ
   pub was : old ≡ Branch n key val Null new
 
--- the left child hangs in the place of the node, which has no right child
+-- the left child takes the place of the node, which has no right child
 pub record LiftsLeft (n : ℕ) (old new : NamedTree) : Type 0 where
   pub key : ℕ
   pub val : ℕ
   pub was : old ≡ Branch n key val new Null
 
--- a copy of the successor `s` hangs in the place of the node, with its children; the successor stays
+-- a copy of the successor `s` takes the place of the node, with its children; the successor stays
 pub record Copies (bypassed : ℕ → Type 0) (n s from until : ℕ) (old new : NamedTree) : Type 0 where
   pub slot : ℕ
   pub old_val : ℕ
@@ -64,7 +64,7 @@ pub record Copies (bypassed : ℕ → Type 0) (n s from until : ℕ) (old new : 
   pub is : new ≡ Branch slot until val left right
   pub ahead : (x : ℕ) → point_of from < x → x ≤ point_of until → LeadsTo bypassed x s right
 
--- a copy of the successor hangs in the place of the node, whose right child the successor was: it goes too
+-- a copy of the successor takes the place of the node, whose right child the successor was: it goes too
 pub record Joins (n s : ℕ) (old new : NamedTree) : Type 0 where
   pub slot : ℕ
   pub from : ℕ
@@ -78,8 +78,8 @@ pub record Joins (n s : ℕ) (old new : NamedTree) : Type 0 where
   pub was : old ≡ Branch n from old_val left (Branch s until next_val Null right)
   pub is : new ≡ Branch slot until val left right
 
--- The node `n` goes out of the plain tree, but at an insert none does; and where the successor `s` was near, `s` too.
--- Where a new node hangs in the place of `n`, then `n` is none that is bypassed.
+-- The node `n` goes out of the plain tree, but none does at an insert; and if the successor `s` was near, so does `s`.
+-- If a new node takes the place of `n`, then `n` is not a bypassed node.
 pub data IsStore (there bypassed : ℕ → Type 0) (n s from until : ℕ) (old new : NamedTree) : Type 0 where
   Insert : Relinks there Grows old new → IsStore there bypassed n s from until old new
   LiftRight : Relinks there (LiftsRight n) old new → IsStore there bypassed n s from until old new
@@ -91,9 +91,9 @@ pub data IsStore (there bypassed : ℕ → Type 0) (n s from until : ℕ) (old n
 abbrev pub IsTest : (ℕ → Bool) → ℕ → Type 0
 IsTest test node = test node ≡ true
 
--- A store, over the links and the plain trees before and after it. Only links of nodes that are in the plain tree after it
--- may change. A successor that waits for the seat is locked by another update, so it is not the node that goes out. Where a
--- copy was linked the seat has not been passed yet.
+-- A store, over the links and the plain trees before and after it. Only links of nodes that are in the plain tree after
+-- it may change. A successor that waits for the seat is locked by another update, so it is not the node that goes out.
+-- If a copy was linked, the seat has not been passed yet.
 pub record Stores (g g' : Graph) (there : ℕ → Bool) (u u' : Undone) (waits waits' : ℕ → ℕ → Bool) (plain plain' : NamedTree)
     (n s from until : ℕ) : Type 0 where
   pub spelled : IsSpelled g (g.child Right 0) plain

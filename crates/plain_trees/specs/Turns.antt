@@ -22,20 +22,20 @@ IsBelow turn turn_key side node key (Branch slot k val left right) =
     ((turn ≡ slot) × (turn_key ≡ k) × HasKey node key (child_of side left right))
     ⊎ (IsBelow turn turn_key side node key left ⊎ IsBelow turn turn_key side node key right)
 
--- the key is on the side of the turn's
+-- the key is on the side of the turn's key
 abbrev pub IsBeyond : Side → ℕ → ℕ → Type 0
 IsBeyond Left turn_key key = key < turn_key
 IsBeyond Right turn_key key = turn_key < key
 
--- A node below a turn that was not taken out has its key beyond the turn's. So a child whose key is not between those of
--- two turns of the plain tree was taken out.
+-- A node below a turn that was not taken out has its key beyond the turn's. So a child whose key is not between those
+-- of two turns of the plain tree was taken out.
 abbrev pub TurnLaw : Type 0
 TurnLaw =
     (u : Undone) (parent turn turn_key node key low high : ℕ) (top side : Side) (plain now : NamedTree)
     → Matches u parent top plain now → IsWithin low high now → ¬ IsOut u node
     → IsBelow turn turn_key side node key plain → IsBeyond side turn_key key
 
--- what is below a turn stays there at each store, but where one of the two goes out
+-- what is below a turn stays there at each store, unless one of the two goes out
 abbrev pub BelowLaw : Type 0
 BelowLaw =
     (there : ℕ → Bool) (u : Undone) (n s from until turn turn_key node key : ℕ) (side : Side) (plain plain' : NamedTree)
@@ -50,8 +50,8 @@ IsPath g plain (node ∷ nodes) from to =
     (from ≡ node) × (0 < node) × (occurs node plain ≡ 0)
     × (IsPath g plain nodes (g.child Left node) to ⊎ IsPath g plain nodes (g.child Right node) to)
 
--- As long as the turn is in the plain tree: wherever such a path from `from` on comes to the tree, it comes to a node below
--- the turn.
+-- As long as the turn is in the plain tree: wherever such a path from `from` on reaches the tree, it reaches a node
+-- below the turn.
 abbrev pub LeadsBelow : Graph → NamedTree → ℕ → ℕ → Side → ℕ → Type 0
 LeadsBelow g plain turn turn_key side from =
     0 < occurs turn plain → (nodes : List ℕ) (to : ℕ) → IsPath g plain nodes from to → 0 < occurs to plain
@@ -69,7 +69,8 @@ TurnStaysLaw =
     (g : Graph) (plain : NamedTree) (turn turn_key node : ℕ) (side to : Side) → IsSpelled g (g.child Right 0) plain → 0 < node → 0 < g.child to node
     → LeadsBelow g plain turn turn_key side node → LeadsBelow g plain turn turn_key side (g.child to node)
 
--- At each store a node goes on leading below a turn, where neither reaches or is a node that is new in the plain tree.
+-- At each store a node still leads below a turn, if the turn is no new node of the plain tree and the node reaches
+-- none.
 abbrev pub StoreTurnLaw : Type 0
 StoreTurnLaw =
     (g g' : Graph) (there : ℕ → Bool) (u : Undone) (n s from until turn turn_key node : ℕ) (side : Side) (plain plain' : NamedTree)

@@ -1,5 +1,5 @@
--- How a search on plain links begins and goes on: what it claims of the node at which it stands it may claim of the child
--- on the point's side.
+-- How a search on plain links begins and goes on: what it claims of the node at which it stands it may claim of the
+-- child on the point's side.
 use Rattle.std.specs.Prelude.{◌≡◌, ℕ, ◌<◌, Bool, Option, Some, None}
 use Rattle.index_words.specs.declared.side.Side.{Side}
 use Rattle.index_words.specs.declared.side.Side.TheVariants.{Left, Right}

@@ -12,16 +12,17 @@ ghost use Rattle.plain_trees.specs.Walks.{BeginLaw, WalkLaw};
 ///
 /// Searches: `begin` and `walk` say what a search may claim at its start and at each step; `gap`, that each key between
 /// its turns is in the gap of the null link at which it has ended, in the tree at the stamp. `turn`: a node that was
-/// not taken out lies below a turn with its key beyond the turn's. `turns_here` and `turn_stays`: where a search turns it
-/// comes to what is below the turn, and stays below the other one.
+/// not taken out lies below a turn with its key beyond the turn's. `turns_here` and `turn_stays`: after a turn a search
+/// reaches what is below the turn, and stays below the other one.
 ///
-/// Raises leave the plain tree as it is, and match it still: `insert`, `replace` and `remove`, in each of its cases.
-/// `ahead`: before a removal with two children raises, each search below the removed node comes to the successor.
+/// Raises leave the plain tree as it is, and it still matches: `insert`, `replace` and `remove`, in each of its cases.
+/// `ahead`: before a removal with two children raises, each search below the removed node reaches the successor.
 ///
-/// Stores of one plain link: `set`, where the link is set to the child that the tree at the stamp has there, the plain
-/// tree matches that tree still, and this was a store of one of the forms; `store`, what a search claims stays, in each
-/// of them; `below`, what is below a turn stays there; `store_turn`, and so does what a search comes to; `reach` and
-/// `reached`, which nodes plain links reach then. `rest`: once all links are set, the plain tree is the tree at the stamp.
+/// Stores of one plain link: `set`, if the link is set to the child that the tree at the stamp has there, the plain
+/// tree still matches that tree, and this was a store of one of the forms; `store`, what a search claims stays, in each
+/// of them; `below`, what is below a turn stays there; `store_turn`, and so does what a search reaches; `reach` and
+/// `reached`, which nodes plain links reach then. `rest`: once all links are set, the plain tree is the tree at the
+/// stamp.
 pub fn plain_links_lead_to_the_gap()
     ensures begin { BeginLaw }
     ensures walk { WalkLaw }

@@ -1,5 +1,5 @@
-//! The plain links of the shared tree, pure: how the tree that they spell stands to the tree at the stamp, what
-//! searches on them claim, and what a store of a plain link leaves of it. The calls do nothing: their clauses are what
+//! The plain links of the shared tree, pure: how the tree that they spell differs from the tree at the stamp, what
+//! searches on them claim, and what stays after a store of a plain link. The calls do nothing: their clauses are what
 //! is proved.
 #![tactic(auto)]
 

@@ -120,7 +120,7 @@ four_entries (Join p) slots =
     fronts-most false = omega arith
 four_entries _ slots = omega arith
 
--- whether the key was there is told by what the update takes out
+-- whether the key was there follows from what the update takes out
 module _ (key : ℕ) (tree : NamedTree) (lawful : IsLawful tree) where
   absent : subtree_at key tree ≡ Null → map_has key (contents tree) ≡ false
   absent none' = lacks-has key tree (null-lacks key 0 (2 ^ 64) tree lawful (subst IsNull (sym none') tt))
@@ -147,7 +147,8 @@ there : (k : ℕ) (free : List ℕ) → (Some k ≡ None) ⊎ (0 < count k free)
 there k free (inl none') = cc
 there k free (inr some) = some
 
--- what the pass owns after the raise, by its case: the free nodes without the new one, and the retired ones with those that go out
+-- what the pass owns after the raise, by its case: the free nodes without the new one, and the retired ones with those
+-- that go out
 moves-nodes : (plan : Plan) (slots : PlanSlots) (free batch retired : List ℕ) → count slots.node free ≤ 1 → (slot_of (new_node_of plan slots) ≡ None) ⊎ (0 < count slots.node free)
     → MovesNodes plan (length free + (length batch + length retired))
     (length (without_all (listed (slot_of (new_node_of plan slots))) free) + (length batch + length (retired ++ out_of plan)))

@@ -87,7 +87,7 @@ this-filled v g = record {
   is = last-item (filled_other g.word (known_before v g.word)) (record { word = g.word; value = g.value });
 }
 
--- behind these fills each of them is kept, and those of other words that were kept before
+-- after these fills each of them is kept, and those of other words that were kept before
 record FilledTo (v : View) (fs : List Filled) (w : View) : Type 0 where
   unused : Slots
   all : List Filled

@@ -18,7 +18,7 @@ same_node a b e = grind (arith, nat_tests)
 pub own_node : (a : ℕ) → eqb a a ≡ true
 own_node a = grind (arith, nat_tests)
 
--- the parts of a node beside its links
+-- the parts of a node apart from its links
 pub record SameParts (g h : HeldNode) : Type 0 where
   pub node : g.node ≡ h.node
   pub mark : g.mark ≡ h.mark

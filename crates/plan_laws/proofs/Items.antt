@@ -119,7 +119,7 @@ got-none [] i is = omega arith
 got-none (x ∷ xs) zero is = cc
 got-none (x ∷ xs) (suc i) is = omega (arith, got-none xs i is)
 
--- what the test of two numbers tells
+-- what the test of two numbers says
 pub told : (a b : ℕ) → ((a == b) ≡ true → a ≡ b) × ((a == b) ≡ false → ¬ (a ≡ b))
 told a b = (
   λ e. elim (eqb_tells a b) as (λ _. a ≡ b) [ inl is ↦ is.1 | inr apart ↦ absurd (false≢true (sym apart.0 ∙ e)) ],

@@ -1,5 +1,5 @@
--- What a try has found under its locks, and what its search has found, stays in each step that keeps the locked nodes, or changes
--- other parts of them.
+-- What a try has found under its locks, and what its search has found, stays in each step that keeps the locked nodes,
+-- or changes other parts of them.
 use Rattle.std.proofs.Common.{◌≡◌, ℕ, suc, ◌⊎◌, inl, inr, List, [], ◌∷◌, ◌++◌, map, Bool, true, false, cond, eqb, refl, ap, sym, ◌∙◌, subst, Option, Some}
 use Rattle.std.proofs.lemmas.Bool.{eqb-true}
 use Rattle.index_words.specs.declared.side.Side.{Side}

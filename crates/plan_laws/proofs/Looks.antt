@@ -38,7 +38,7 @@ use Rattle.plan_laws.proofs.HeldMaps.{mark-node, mark-keeps, mark-is, number-at,
 use Rattle.plan_laws.proofs.Items.{first-item, item-below, item-longer, item-map}
 use Rattle.plan_laws.proofs.Kept.{KeepsFound, KeepsHeld, MovesHeld, links-kept, looks-kept, mapped, more-links, numbered-kept, same-held, same-links, found-at, held-longer}
 
--- the plan and its slots are of no matter to what is loaded of a locked node
+-- what is loaded of a locked node does not depend on the plan and its slots
 no-plan : Plan
 no-plan = Grow (record { pair = pair 0 0; at = link_of 0 Right })
 

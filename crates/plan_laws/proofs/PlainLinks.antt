@@ -92,7 +92,7 @@ sets-rest (u ∷ us) f rest e all =
     ap (λ b. map set_of (cond (not b) (u ∷ other_links f.at.node f.at.side us) (other_links f.at.node f.at.side us))) (is-link u f same)
     ∙ ap (map set_of) (others-stay f.at.node f.at.side us (subst (AreOthers f.at.node) (sym more) all)) ∙ more
 
--- where no successor is unlinked behind a wait one link is to be set
+-- where no successor is unlinked after a wait one link is to be set
 one-set : (plan : Plan) (slots : PlanSlots) → SetsAtOnce plan → sets_of plan slots ≡ set_by (front_of plan slots) ∷ []
 one-set (Join p) slots at_once = by (p.next.at.node == p.node) at_once
   where

@@ -49,7 +49,7 @@ front_is (Join p) slots (suc place) f is = by (p.next.at.node == p.node) place i
     by false (suc n) e = cc
 front_is _ slots _ f is = cc
 
--- what stands first in a list does not stand behind
+-- what stands first in a list does not stand later in it
 head-apart : (x y : ℕ) (xs : List ℕ) → count y (x ∷ xs) ≤ 1 → 0 < count y xs → ¬ (x ≡ y)
 head-apart x y xs once some same = omega (arith, once, some, twice x y (count y xs) same)
   where

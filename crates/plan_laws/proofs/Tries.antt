@@ -33,7 +33,7 @@ pub record ReadsAs (r s : Reading) : Type 0 where
   pub least : s.least ≡ r.least
   pub tree : s.tree ≡ r.tree
 
--- where besides only locks, counts and the slots that were never used have changed the rest is kept
+-- where only locks, counts and the slots that were never used have changed besides, the rest is kept
 pub read-as : (v w : View) → w ≡ record v { reading = w.reading; held = w.held; counts = w.counts; unused = w.unused } → ReadsAs v.reading w.reading
     → KeepsPass v w
 read-as v w is reads = record {

@@ -1,4 +1,5 @@
--- What the answer of an update needs: the place of the raise, whether the key was there, and how many slots the pass owns after it.
+-- What the answer of an update needs: the place of the raise, whether the key was there, and how many slots the pass
+-- owns after it.
 use Rattle.std.specs.Prelude.{◌≡◌, ℕ, ◌+◌, ◌<◌, ◌≤◌, Bool, true, false, [], ◌∷◌, ◌++◌, length, take, Some}
 use Rattle.std.specs.List.{slice_get}
 use Rattle.index_words.specs.declared.side.Side.{Side}
@@ -34,15 +35,16 @@ was_there (Replace p) = true
 was_there (Lift p) = true
 was_there (Join p) = true
 
--- the nodes after the raise: one fewer after a put of an absent key, as many after one of a present key, and one more after a removal
+-- the nodes after the raise: one fewer after a put of an absent key, as many after one of a present key, and one more
+-- after a removal
 abbrev pub MovesNodes : Plan → ℕ → ℕ → Type 0
 MovesNodes (Grow p) old new = new + 1 ≡ old
 MovesNodes (Replace p) old new = new ≡ old
 MovesNodes (Lift p) old new = new ≡ old + 1
 MovesNodes (Join p) old new = new ≡ old + 1
 
--- from the view before the raise to the one after it: the update is the last of the whole history, at its place, which is the pass's own;
--- the key was in the map before or not; and what the pass owns
+-- from the view before the raise to the one after it: the update is the last of the whole history, at its place, which
+-- is the pass's own; the key was in the map before or not; and what the pass owns
 pub record AnswersRaise (t : Table) (n line : ℕ) (v w : View) (plan : Plan) (slots : PlanSlots) : Type 0 where
   pub before : v.history.seen ≡ take (length v.history.seen) (longest t.views)
   pub seen : w.history.seen ≡ longest t.views ++ update_by n line plan ∷ []

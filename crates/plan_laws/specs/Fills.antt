@@ -1,6 +1,6 @@
--- Behind its last look a try finds the newest entries of the bundles that it changes, and fills its own free slots: the new node,
--- the entries of its links, and the entries that are put in front of bundles, each of these with the entry behind it that was found.
--- No other seat reads these words yet.
+-- After its last look a try finds the newest entries of the bundles that it changes, and fills its own free slots: the
+-- new node, the entries of its links, and the entries that are put in front of bundles, each of these with the entry
+-- after it that was found. No other seat reads these words yet.
 use Rattle.std.specs.Prelude.{◌≡◌, ℕ, ◌<◌, ◌^◌, List, [], ◌∷◌, ◌++◌, Option, Some, None, IfSome}
 use Rattle.index_words.specs.declared.view.View.{View}
 use Rattle.index_words.specs.declared.view.reading.Filled.{Filled}
@@ -33,7 +33,8 @@ pub record AreApart (slots : PlanSlots) : Type 0 where
   pub at_small : slots.at < 2 ^ 32
   pub next_small : slots.next < 2 ^ 32
 
--- all looks hold, and these are the newest entries of the bundles in front of which the plan puts its own, with their numbers
+-- all looks hold, and these are the newest entries of the bundles in front of which the plan puts its own, with their
+-- numbers
 pub record HasHeads (v : View) (n : ℕ) (plan : Plan) (heads : Heads) : Type 0 where
   pub looked : HasLookedAll v n plan
   pub at : HoldsNumbered v (link_at plan) heads.at
@@ -52,7 +53,7 @@ abbrev pub new_fills_of : Option NewNode → List Filled
 new_fills_of None = []
 new_fills_of (Some n) = new_fills n
 
--- of an entry that is put in front, with the entry behind it
+-- of an entry that is put in front, with the entry after it
 abbrev pub front_fills : ℕ → Front → List Filled
 front_fills behind f = entry_fills f.entry f.child behind
 
@@ -65,7 +66,7 @@ abbrev pub fills_of : Plan → PlanSlots → Heads → List Filled
 fills_of plan slots heads =
     new_fills_of (new_node_of plan slots) ++ (front_fills heads.at (front_of plan slots) ++ next_fills heads.next (next_front_of plan slots))
 
--- the view behind these fills
+-- the view after these fills
 abbrev pub filled_all : View → List Filled → View
 filled_all v [] = v
 filled_all v (f ∷ fs) = filled_all (filled_view v f.word f.value) fs
@@ -80,7 +81,7 @@ pub record HasFilledAll (v : View) (n : ℕ) (plan : Plan) (slots : PlanSlots) (
 abbrev pub MayFillOnLaw : Type 0
 MayFillOnLaw = (v : View) (f g : Filled) → MayFill v g.word → MayFill (filled_view v f.word f.value) g.word
 
--- each word may be filled, and behind the last one all are
+-- each word may be filled, and after the last one all are
 pub record FillsAll (v : View) (n : ℕ) (plan : Plan) (slots : PlanSlots) (heads : Heads) : Type 0 where
   pub may : Every (λ (f : Filled). MayFill v f.word) (fills_of plan slots heads)
   pub filled : HasFilledAll (filled_all v (fills_of plan slots heads)) n plan slots heads

@@ -11,8 +11,8 @@ use Rattle.core_events.specs.PlainMoves.{link_loaded, tag_loaded}
 use Rattle.core_events.specs.UpdateMoves.{prepared}
 use Rattle.core_laws.specs.ViewNeeds.{IsInside}
 
--- what no step between the load of the stamp and the raise changes: what the pass knows of the history and reads, and its slots, but
--- for free entries, which are put in front of bundles
+-- what no step between the load of the stamp and the raise changes: what the pass knows of the history and reads, and
+-- its slots, but for free entries, which are put in front of bundles
 pub record KeepsPass (v w : View) : Type 0 where
   pub layout : w.layout ≡ v.layout
   pub joined : w.joined ≡ v.joined
@@ -30,7 +30,8 @@ pub record KeepsPass (v w : View) : Type 0 where
   pub raised : w.update.raised ≡ v.update.raised
   pub taken : w.update.taken ≡ v.update.taken
 
--- what no step behind the raise changes, and none of a try that is given up: what the pass knows of the history, its counts and its slots
+-- what no step after the raise changes, and none of a try that is given up: what the pass knows of the history, its
+-- counts and its slots
 pub record KeepsOwned (v w : View) : Type 0 where
   pub layout : w.layout ≡ v.layout
   pub joined : w.joined ≡ v.joined
@@ -47,7 +48,7 @@ pub record CountsGrow (v w : View) : Type 0 where
   pub waits : v.counts.waits ≤ w.counts.waits
   pub moves : v.counts.moves ≤ w.counts.moves
 
--- what each step of a try keeps: besides, all its free slots, before it puts an entry in front
+-- what each step of a try keeps: also all its free slots, before it puts an entry in front
 pub record KeepsTry (v w : View) : Type 0 where
   pub pass : KeepsPass v w
   pub free : w.free ≡ v.free

@@ -1,4 +1,5 @@
--- With all its slots filled a try puts its entries in front of bundles, one after another. Behind the last one it may raise.
+-- With all its slots filled a try puts its entries in front of bundles, one after another. After the last one it may
+-- raise.
 use Rattle.std.specs.Prelude.{◌≡◌, ℕ, zero, suc, ◌+◌, ◌<◌, ◌≤◌, ◌^◌, [], take, Some, None}
 use Rattle.std.specs.List.{slice_get}
 use Rattle.index_words.specs.declared.layout.Layout.{Layout}
@@ -75,7 +76,7 @@ pub record IsReadyToRaise (v : View) (n : ℕ) (plan : Plan) (slots : PlanSlots)
   pub making : IsMaking v n plan
   pub ready : IsReadyFor v plan slots
 
--- so it is behind the last one
+-- this is so after the last one
 abbrev pub PrepareEndLaw : Type 0
 PrepareEndLaw =
     (v : View) (n : ℕ) (plan : Plan) (slots : PlanSlots) (heads : Heads) (done : ℕ) → HasPrepared v n plan slots heads done → AreApart slots

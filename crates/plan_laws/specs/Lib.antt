@@ -1,3 +1,4 @@
+-- The stages of an update from its search to its end, and the laws on each step between them.
 pub mod Frames
 pub mod Places
 pub mod Slots

@@ -1,5 +1,5 @@
--- The looks of a try under its locks: that a node is unmarked, where a plain link leads, which tag it has, and the key and the value
--- of a node. What was found stays so, since each of them is loaded once.
+-- The looks of a try under its locks: that a node is unmarked, where a plain link leads, which tag it has, and the key
+-- and the value of a node. What was found stays so, since each of them is loaded once.
 use Rattle.std.specs.Prelude.{◌≡◌, ℕ, ◌<◌, ◌^◌, ◌≤◌, List, true, Option, Some}
 use Rattle.index_words.specs.declared.layout.Layout.{Layout}
 use Rattle.index_words.specs.declared.side.Side.{Side}
@@ -62,7 +62,8 @@ pub record KeepsLooks (v w : View) : Type 0 where
 abbrev pub KeepsLooksLaw : Type 0
 KeepsLooksLaw = (u v w : View) → KeepsLooks u v → KeepsLooks v w → KeepsLooks u w
 
--- a lock keeps it, whether it is found free or held, and so does a load, where what was loaded under the lock before was the same
+-- a lock keeps it, whether it is found free or held, and so does a load, where what was loaded under the lock before
+-- was the same
 pub record StepsKeepLooks (v : View) : Type 0 where
   pub locked : (node : ℕ) → ¬ IsLocked v node → KeepsLooks v (locked_view v node)
   pub met : (own found : ℕ) → KeepsLooks v (met_lock v own found)
@@ -96,8 +97,8 @@ pub record LooksAtNode (z : Layout) (v : View) (seat node : ℕ) : Type 0 where
 abbrev pub LookLaw : Type 0
 LookLaw = (z : Layout) (v : View) (seat n node : ℕ) (nodes : List ℕ) → IsTrying v n nodes → IsLocked v node → LooksAtNode z v seat node
 
--- behind the load of a head the seat stands at the entry that was found, whose number it may load; where that is written, the entry
--- is known with it
+-- after the load of a head the seat stands at the entry that was found, whose number it may load; where that is
+-- written, the entry is known with it
 pub record LooksAtNumber (z : Layout) (v : View) (seat : ℕ) (at : Link) (entry : ℕ) : Type 0 where
   pub may : entry ≤ v.layout.entries → May z v (event_at z seat LoadTs (Entry Number entry) 0)
   pub written : (x : ℕ) → 0 < x → HoldsNumbered (ts_loaded v entry x) at entry

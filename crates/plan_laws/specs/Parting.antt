@@ -1,6 +1,7 @@
--- The end of a removal with a far successor, in two halves around its wait. The first half ends its section: the removed node is
--- marked, its copy is linked, and the locks of the removed node and of its parent are given back. Those of the successor and of its
--- parent are kept. Behind the wait the successor is marked and unlinked, and then these locks are given back.
+-- The end of a removal with a far successor, in two halves around its wait. The first half ends its section: the
+-- removed node is marked, its copy is linked, and the locks of the removed node and of its parent are given back. Those
+-- of the successor and of its parent are kept. After the wait the successor is marked and unlinked, and then these
+-- locks are given back.
 use Rattle.std.specs.Prelude.{◌≡◌, ℕ, ◌+◌, ◌<◌, ◌≤◌, ◌==◌, List, [], ◌∷◌, Bool, true, false, map, Option, Some, is_some}
 use Rattle.index_words.specs.declared.view.View.{View}
 use Rattle.index_words.specs.declared.view.update.HeldNode.{HeldNode}
@@ -59,9 +60,9 @@ KnowsMark v k x = Knows v k (λ (h : HeldNode). h.mark) x
 abbrev pub KnowsTag : JoinPlan → ℕ → View → Type 0
 KnowsTag p tag v = Knows v p.next.at.node (λ (h : HeldNode). (side_of p.next.at.side h).tag) tag
 
--- a pass whose removal with a far successor has raised, and is done with its entries. It has these nodes locked, in this order, and
--- no others; those of them that it took out are known to be marked, but for the successor; these links are still to be set; and
--- the parent of the successor was found unmarked
+-- a pass whose removal with a far successor has raised, and is done with its entries. It has these nodes locked, in
+-- this order, and no others; those of them that it took out are known to be marked, but for the successor; these links
+-- are still to be set; and the parent of the successor was found unmarked
 pub record IsParting (even : Bool) (v : View) (n : ℕ) (p : JoinPlan) (nodes : List ℕ) (sets : List SetLink) : Type 0 where
   pub live : v.joined ≡ false
   pub own : v.number ≡ Some n
@@ -82,7 +83,7 @@ pub record IsParted (even : Bool) (v : View) (n : ℕ) (p : JoinPlan) (tag : ℕ
   pub parting : IsParting even v n p nodes (far_set p ∷ [])
   pub tagged : KnowsTag p tag v
 
--- behind the numbers and the cuts the removed node may be marked
+-- after the numbers and the cuts the removed node may be marked
 pub record StartsParting (v : View) (n : ℕ) (p : JoinPlan) (copy : ℕ) : Type 0 where
   pub may : MayMark v p.node
   pub parting : IsParting false (with_mark v p.node 1) n p (far_locks p) (copy_set p copy ∷ far_set p ∷ [])

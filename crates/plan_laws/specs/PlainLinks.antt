@@ -1,6 +1,6 @@
--- The plain link of an update, behind its marks. The link at which the tree has another child since the raise is set. Then its tag
--- is raised, where a removal has made it null. Until both are done no lock is given back. A removal with a far successor ends
--- otherwise, in two halves around a wait.
+-- The plain link of an update, after its marks. The link at which the tree has another child since the raise is set.
+-- Then its tag is raised, where a removal has made it null. Until both are done no lock is given back. A removal with a
+-- far successor ends otherwise, in two halves around a wait.
 use Rattle.std.specs.Prelude.{◌≡◌, ℕ, ◌+◌, ◌<◌, ◌≤◌, List, [], Bool, true, false, map, ◌==◌, ◌&&◌, Option, Some, None}
 use Rattle.index_words.specs.declared.view.View.{View}
 use Rattle.index_words.specs.declared.view.reading.Link.{Link as ViewLink}
@@ -26,13 +26,14 @@ use Rattle.plan_laws.specs.Frames.{KeepsOwned}
 use Rattle.plan_laws.specs.Places.{LocksOnce}
 use Rattle.plan_laws.specs.Releases.{IsReleasing}
 
--- what the update of a plan has still to do at plain links: these links are to be set, and of these the tags are to be raised
+-- what the update of a plan has still to do at plain links: these links are to be set, and of these the tags are to be
+-- raised
 pub record LeavesLinks (unset : List UnsetLink) (owed : List OwedTag) (unlinking : Option Unlinking) (plan : Plan) (sets tags : List SetLink) : Type 0 where
   pub unset_are : map set_of unset ≡ sets
   pub owed_are : owed ≡ owed_of (change_of plan) tags
   pub last : unlinking ≡ unlinks_of plan
 
--- all links are set in one section, since no successor is unlinked behind a wait
+-- all links are set in one section, since no successor is unlinked after a wait
 abbrev pub SetsAtOnce : Plan → Type 0
 SetsAtOnce plan = unlinks_of plan ≡ None
 

@@ -73,8 +73,8 @@ pub record PrunesOn (v : View) (n : ℕ) (plan : Plan) (slots : PlanSlots) : Typ
 abbrev pub PruneStepLaw : Type 0
 PruneStepLaw = (v : View) (n : ℕ) (plan : Plan) (slots : PlanSlots) → HasNumbered v n plan slots → PrunesOn v n plan slots
 
--- a pass that cuts without an update: inside a section, with a section number, it has locked these nodes, in this order,
--- and has done nothing else of an update
+-- a pass that cuts without an update: inside a section, with a section number, it has locked these nodes, in this
+-- order, and has done nothing else of an update
 pub record IsCutting (v : View) (n : ℕ) (nodes : List ℕ) : Type 0 where
   pub live : v.joined ≡ false
   pub own : v.number ≡ Some n
@@ -112,6 +112,6 @@ EndCuttingLaw = (v : View) (n : ℕ) (nodes : List ℕ) → IsCutting v n nodes 
 abbrev pub KeepsPrunedLaw : Type 0
 KeepsPrunedLaw = (u v w : View) → KeepsPruned u v → KeepsPruned v w → KeepsPruned u w
 
--- the other steps behind the raise keep no less
+-- the other steps after the raise keep no less
 abbrev pub OwnedIsPrunedLaw : Type 0
 OwnedIsPrunedLaw = (v w : View) → KeepsOwned v w → KeepsPruned v w

@@ -1,5 +1,6 @@
--- The raise of a plan, and what follows it: the numbers of its entries are written, one after another, and then, behind
--- the pruning, the nodes that went out are marked. Until both are done, and the plain links are set, no lock is given back.
+-- The raise of a plan, and what follows it: the numbers of its entries are written, one after another, and then, after
+-- the pruning, the nodes that went out are marked. Until both are done, and the plain links are set, no lock is given
+-- back.
 use Rattle.std.specs.Prelude.{◌≡◌, ℕ, ◌+◌, ◌<◌, [], take, drop, true, false, Some, None, is_some}
 use Rattle.std.specs.List.{slice_get}
 use Rattle.index_words.specs.declared.layout.Layout.{Layout}
@@ -55,7 +56,7 @@ update_by n line plan = update_of n line (key_of plan) (change_of plan)
 abbrev pub raised_at : Table → View → Update → View
 raised_at t v u = raised_view (longest t.views) v (held_by t Stamp) u (tree_move t.layout (held_by t) t.views v u)
 
--- the raise may be made, at the place behind the stamp; none of its entries has its number written then
+-- the raise may be made, at the place after the stamp; none of its entries has its number written then
 pub record RaisesNow (t : Table) (seat n line : ℕ) (v : View) (plan : Plan) (slots : PlanSlots) : Type 0 where
   pub may : allowed t (raise_of t.layout seat (update_by n line plan)) ≡ true
   pub raised : HasFinalised (raised_at t v (update_by n line plan)) n plan slots (held_by t Stamp + 1) 0
@@ -94,7 +95,7 @@ FinaliseEndLaw =
     (v : View) (n : ℕ) (plan : Plan) (slots : PlanSlots) (place done : ℕ) → HasFinalised v n plan slots place done
     → slice_get (entries_in plan slots) done ≡ None → HasNumbered v n plan slots
 
--- behind the pruning the nodes may be marked
+-- after the pruning the nodes may be marked
 abbrev pub MarkStartLaw : Type 0
 MarkStartLaw = (v : View) (n : ℕ) (plan : Plan) (slots : PlanSlots) → HasNumbered v n plan slots → HasMarked v n plan slots 0
 
@@ -109,7 +110,7 @@ MarkStepLaw =
     (z : Layout) (v : View) (seat n : ℕ) (plan : Plan) (slots : PlanSlots) (done node : ℕ) → HasMarked v n plan slots done
     → slice_get (out_of plan) done ≡ Some node → MarksNext z v seat n plan slots done node
 
--- behind the last one the plain links may be set
+-- after the last one the plain links may be set
 abbrev pub MarkEndLaw : Type 0
 MarkEndLaw =
     (v : View) (n : ℕ) (plan : Plan) (slots : PlanSlots) (done : ℕ) → HasMarked v n plan slots done → slice_get (out_of plan) done ≡ None

@@ -1,5 +1,5 @@
--- The end of an update, and of a try that fails: the locks are given back, one after another, the section is left, and the
--- announcement is taken back.
+-- The end of an update, and of a try that fails: the locks are given back, one after another, the section is left, and
+-- the announcement is taken back.
 use Rattle.std.specs.Prelude.{◌≡◌, ℕ, ◌<◌, ◌≤◌, List, [], ◌∷◌, Bool, true, false, Some, None}
 use Rattle.index_words.specs.declared.layout.Layout.{Layout}
 use Rattle.index_words.specs.declared.view.View.{View}
@@ -18,9 +18,9 @@ use Rattle.core_laws.specs.ViewNeeds.{May, IsInside, event_at}
 use Rattle.plan_laws.specs.Frames.{KeepsOwned}
 use Rattle.plan_laws.specs.Tries.{IsTrying}
 
--- a pass still has these nodes locked, in this order, and no others, inside a section, or behind one with a wait. Nothing is pending, and of
--- these nodes those that its update took out are known to be marked; no plain link is to be set any more, no tag to be raised, and no
--- successor to be unlinked. With the last lock the update has ended
+-- a pass still has these nodes locked, in this order, and no others, inside a section, or after one with a wait.
+-- Nothing is pending, and of these nodes those that its update took out are known to be marked; no plain link is to be
+-- set any more, no tag to be raised, and no successor to be unlinked. With the last lock the update has ended
 pub record IsGivingBack (even : Bool) (v : View) (n : ℕ) (nodes : List ℕ) : Type 0 where
   pub live : v.joined ≡ false
   pub own : v.number ≡ Some n
@@ -78,7 +78,7 @@ pub record LeavesLast (z : Layout) (v : View) (seat n : ℕ) : Type 0 where
 abbrev pub LeaveStepLaw : Type 0
 LeaveStepLaw = (z : Layout) (v : View) (seat n : ℕ) → IsReleasing v n [] → LeavesLast z v seat n
 
--- behind the section the announcement may be taken back
+-- after the section the announcement may be taken back
 pub record TakesBack (z : Layout) (v : View) (seat n : ℕ) : Type 0 where
   pub may : May z v (event_at z seat Announce (Announced n) 0)
   pub rests : IsResting (announced_view v 0) n

@@ -1,5 +1,5 @@
--- A try of an update, up to its raise: a pass inside a section searches, and locks nodes that it has searched, one after another.
--- No word but locks is changed by then.
+-- A try of an update, up to its raise: a pass inside a section searches, and locks nodes that it has searched, one
+-- after another. No word but locks is changed by then.
 use Rattle.std.specs.Prelude.{◌≡◌, ℕ, ◌+◌, ◌<◌, ◌≤◌, List, [], ◌∷◌, ◌++◌, Some}
 use Rattle.index_words.specs.declared.layout.Layout.{Layout}
 use Rattle.index_words.specs.declared.side.Side.{Side}
@@ -17,8 +17,8 @@ use Rattle.core_invariant.specs.Readers.{IsLocked}
 use Rattle.core_laws.specs.ViewNeeds.{May, IsSearched, event_at}
 use Rattle.core_updates.specs.PlanEvents.{IsWorking}
 
--- a pass inside a section, with a section number, that has locked these nodes, in this order, and has done nothing else of an update;
--- it has taken none of them out itself
+-- a pass inside a section, with a section number, that has locked these nodes, in this order, and has done nothing else
+-- of an update; it has taken none of them out itself
 pub record IsTrying (v : View) (n : ℕ) (nodes : List ℕ) : Type 0 where
   pub working : IsWorking v n
   pub number : ℕ
@@ -34,8 +34,8 @@ pub record CanLock (v : View) (k : ℕ) : Type 0 where
   pub searched : IsSearched v k
   pub unlocked : ¬ IsLocked v k
 
--- Such a node may be locked. Where its lock is found free, one more is locked, as a search comes to no node that its own seat has
--- taken out; where it is held, nothing has changed.
+-- Such a node may be locked. Where its lock is found free, one more is locked, as a search reaches no node that its own
+-- seat has taken out; where it is held, nothing has changed.
 pub record LocksNext (z : Layout) (v : View) (seat n : ℕ) (nodes : List ℕ) (node : ℕ) : Type 0 where
   pub may : May z v (event_at z seat TryLock (Node Lock node) (n + 1))
   pub locked : count node v.retired.nodes ≡ 0 → IsTrying (locked_view v node) n (nodes ++ node ∷ [])
@@ -49,7 +49,7 @@ LockStepLaw =
 abbrev pub KeepsTrying : View → View → Type 0
 KeepsTrying v w = (n : ℕ) (nodes : List ℕ) → IsTrying v n nodes → IsTrying w n nodes
 
--- so it is behind each load
+-- this is so after each load
 pub record LoadsKeep (v : View) : Type 0 where
   pub link : (node x : ℕ) (side : Side) → KeepsTrying v (link_loaded v node side x)
   pub tag : (node x : ℕ) (side : Side) → KeepsTrying v (tag_loaded v node side x)

@@ -1,4 +1,4 @@
-// Laws on the raise, and on the steps behind it and behind a try that fails. These calls do nothing: their clauses are
+// Laws on the raise, and on the steps after it and after a try that fails. These calls do nothing: their clauses are
 // what is proved.
 ghost use Rattle.plan_laws.specs.Answers.{AnswerLaw, PreparedOwnsLaw, FourEntriesLaw};
 ghost use Rattle.plan_laws.specs.Frames.{StepsKeepLaw, KeepsPassLaw, KeepsTryLaw, KeepsOwnedLaw};
@@ -10,7 +10,7 @@ ghost use Rattle.plan_laws.specs.Releases.{GiveUpLaw, NothingLockedLaw, UnlockSt
 
 use core_updates::ready_plans_may_raise;
 
-/// A seat that is ready for its plan may raise, at the place behind the stamp. Then the numbers of its entries are
+/// A seat that is ready for its plan may raise, at the place after the stamp. Then the numbers of its entries are
 /// written, and the nodes that went out are marked.
 pub fn updates_raise()
     ensures raise { RaiseStepLaw }
@@ -23,7 +23,7 @@ pub fn updates_raise()
     ready_plans_may_raise();
 }
 
-/// Behind the marks the plain link is set at which the tree has another child since the raise, and its tag is raised
+/// After the marks the plain link is set at which the tree has another child since the raise, and its tag is raised
 /// where a removal has made it null. Then the locks may be given back.
 pub fn plain_links_are_set()
     ensures set { SetLaw }
@@ -32,7 +32,7 @@ pub fn plain_links_are_set()
 {}
 
 /// A removal with a far successor ends in two halves around its wait. Before it the copy is linked, and the section is
-/// left with two locks. Behind it the successor is marked and unlinked, and these locks are given back.
+/// left with two locks. After it the successor is marked and unlinked, and these locks are given back.
 pub fn removals_wait()
     ensures start { StartPartingLaw }
     ensures copy { LinkCopyLaw }
@@ -73,7 +73,7 @@ pub fn steps_keep_the_rest()
     ensures owned { KeepsOwnedLaw }
 {}
 
-/// What the answer of an update needs. The raise is at the place behind the stamp, which is the length of the history
+/// What the answer of an update needs. The raise is at the place after the stamp, which is the length of the history
 /// that the pass has seen then; the key was in the map before or not, as the plan has it; and of the slots that the
 /// pass owns there is at most one node fewer, and at most four entries with those that were put in front.
 pub fn updates_are_answered()

@@ -23,14 +23,14 @@ pub fn tries_look()
     ensures keeps { KeepsLooksLaw }
 {}
 
-/// Behind its last look a try fills its own free slots, which are above 0.
+/// After its last look a try fills its own free slots, which are above 0.
 pub fn tries_fill()
     ensures slots { SlotsSomeLaw }
     ensures on { MayFillOnLaw }
     ensures fill { FillLaw }
 {}
 
-/// With all its slots filled a try puts its entries in front of bundles. Behind the last one the seat is ready for its
+/// With all its slots filled a try puts its entries in front of bundles. After the last one the seat is ready for its
 /// plan.
 pub fn tries_prepare()
     ensures start { PrepareStartLaw }

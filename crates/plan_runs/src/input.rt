@@ -1,5 +1,5 @@
 // A run as text. The first line has the size of each pass, as `nodes,entries,calls`, between single spaces. Each line
-// behind it is what a pass is asked for, as `ask SEAT put KEY VAL`, `ask SEAT remove KEY`, `ask SEAT open`,
+// after it is what a pass is asked for, as `ask SEAT put KEY VAL`, `ask SEAT remove KEY`, `ask SEAT open`,
 // `ask SEAT get KEY` or `ask SEAT close`, or turns of passes, as `turns SEAT SEAT ..`.
 use crate::seat::{Request, Seat};
 use core_updates::PlanSlots;
@@ -22,7 +22,7 @@ const NO_SLOTS: PlanSlots = PlanSlots {
     next: 0,
 };
 
-/// The run of a text. None where the text is none, or memory ran out.
+/// The run of a text. None if the text is not a run, or when out of memory.
 pub(crate) fn input_of(alloc: Global, text: &str) -> Option<Input> {
     let mut lines = text.lines();
     let mut input = Input {

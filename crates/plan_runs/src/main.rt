@@ -1,6 +1,6 @@
-// Carries plans of updates out on the pure machine. Standard input has the sizes of the passes, what each is asked
-// for, and whose turn it is; each turn is one step of a pass, most often one event. It prints what each step has come
-// to, and at the end how many events there were, and the words.
+// Carries out plans of updates on the pure machine. Standard input has the sizes of the passes, what each is asked for,
+// and whose turn it is; each turn is one step of a pass, usually one event. It prints what each step has reported, and
+// at the end how many events there were, and the words.
 #![tactic(auto)]
 
 mod input;
@@ -64,7 +64,7 @@ fn run(rt: &HostRuntime, alloc: Global, mut machine: Machine, mut input: Input) 
     print_words(rt, &machine)
 }
 
-// Whether the run goes on.
+// Makes a turn of a pass. Returns whether the run goes on.
 fn one_turn(
     rt: &HostRuntime,
     alloc: Global,

@@ -1,4 +1,4 @@
-// The plain links that an update sets behind its marks, and the tags of those that a removal has made null. The link to
+// The plain links that an update sets after its marks, and the tags of those that a removal has made null. The link to
 // a successor is set last, when every other pass was found outside of its section, or in a later one.
 use crate::machine::{Machine, Stop};
 use crate::seat::{PlainStep, Seat, Step, UpdateStep};
@@ -24,7 +24,7 @@ pub(crate) fn plain_step(
     }
 }
 
-/// The successor that the update has still to unlink.
+/// The successor that the update still has to unlink.
 pub(crate) fn last_of(machine: &Machine, number: u32) -> Option<Unlinking> {
     machine.view(number)?.update.unlinking
 }
@@ -33,7 +33,7 @@ fn is_last(machine: &Machine, number: u32, at: Link) -> bool {
     last_of(machine, number).is_some_and(|last| last.parent == at.node && last.side == at.side)
 }
 
-// The links in front of whose bundles entries were put lead to the same children, in the same order.
+// Sets the link in front of whose bundle an entry was put to the entry's child, and then the links after it.
 fn set_link(
     alloc: Global,
     machine: &mut Machine,
@@ -57,7 +57,7 @@ fn set_link(
     seat.then(&[Step::Plain(PlainStep::Link(place.saturating_add(1)))])
 }
 
-// The tag of the link to a successor is loaded inside the section, and raised behind the wait.
+// The tag of the link to a successor is loaded inside the section, and raised after the wait.
 fn load_tag(
     alloc: Global,
     machine: &mut Machine,

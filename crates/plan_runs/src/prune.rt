@@ -1,4 +1,4 @@
-// The bundles that an update has changed are cut behind what the least announced number selects.
+// The bundles that an update has changed are cut after what the least announced number selects.
 use crate::machine::{Machine, Stop};
 use crate::seat::{PruneStep, Report, Seat, Step};
 use crate::walk::entry_at;
@@ -47,8 +47,8 @@ fn bundle(alloc: Global, machine: &mut Machine, seat: &mut Seat, place: usize) -
     ])
 }
 
-// The number of the entry at which the pass stands: the first one that is not above the least number is the last one to
-// be kept.
+// The number of the entry at which the pass stands: the first entry whose number is not above the least one is the last
+// to be kept.
 fn number(alloc: Global, machine: &mut Machine, seat: &mut Seat, entry: u32) -> Result<(), Stop> {
     if entry == 0 {
         return Ok(());

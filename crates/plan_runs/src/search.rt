@@ -1,5 +1,5 @@
 // Searches on plain links: for the key of an update, from the root on, and for the successor of a node that is to be
-// removed. Other passes set these links meanwhile, so what is found is looked at again under locks.
+// removed. Other passes set these links meanwhile, so what is found is checked again under locks.
 use crate::machine::{Machine, Stop};
 use crate::seat::{Aim, Found, Gap, Outcome, SearchStep, Seat, Step, UpdateStep, WalkStep};
 use crate::turn::begin_section;
@@ -122,7 +122,7 @@ fn learn_link(node: u32, side: Side) -> Step {
     Step::Update(UpdateStep::Learn(Word::Node(Field::Link(side), node)))
 }
 
-// Locks the key's node and its parent, and looks whether the node still hangs there.
+// Locks the key's node and its parent, and checks whether the node is still the parent's child.
 fn hold(seat: &mut Seat, found: Found) -> Result<(), Stop> {
     let Found { at, node } = found;
     seat.then(&[
@@ -214,7 +214,7 @@ fn link_to(machine: &Machine, seat: &Seat, node: u32) -> Option<Link> {
     found
 }
 
-// Locks the successor and its parent, but for the node that is to be removed, which is locked.
+// Locks the successor and its parent, except the node that is to be removed, which is locked already.
 fn hold_next(machine: &Machine, seat: &mut Seat, removed: Found, gap: Gap) -> Result<(), Stop> {
     let node = gap.at.node;
     let at = link_to(machine, seat, node).ok_or(Stop::Wrong)?;
@@ -242,7 +242,7 @@ fn hold_next(machine: &Machine, seat: &mut Seat, removed: Found, gap: Gap) -> Re
     ])
 }
 
-// A search tells nothing of a key that it has not found: a snapshot does.
+// A search does not show that a key which it has not found is absent: a snapshot does.
 fn look_in_snapshot(seat: &mut Seat, key: u64) -> Result<(), Stop> {
     seat.checks = true;
     seat.then(&[

@@ -15,8 +15,7 @@ pub(crate) enum Request {
     Close,
 }
 
-/// A step of a pass. Most make one event; a step that has more to do puts the rest in front of the steps that are
-/// left.
+/// A step of a pass. Most make one event; a step that has more to do puts the rest in front of the steps that are left.
 #[derive(Clone, Copy)]
 pub(crate) enum Step {
     /// Looks at the section of a pass, until there are free slots enough, for so many rounds.
@@ -34,7 +33,7 @@ pub(crate) enum Step {
     Update(UpdateStep),
     Prune(PruneStep),
     Plain(PlainStep),
-    /// Tells how a try has ended.
+    /// Reports how a try has ended.
     Tell(Outcome),
 }
 
@@ -72,11 +71,11 @@ pub(crate) enum SearchStep {
 #[derive(Clone, Copy)]
 pub(crate) enum UpdateStep {
     Lock(u32),
-    /// Looks whether the locked node is unmarked.
+    /// Checks whether the locked node is unmarked.
     Unmarked(u32),
-    /// Looks whether the link still leads to the child that the search has found.
+    /// Checks whether the link still leads to the child that the search has found.
     Leads { at: Link, child: u32 },
-    /// Looks whether the null link still has the tag that the search has found.
+    /// Checks whether the null link still has the tag that the search has found.
     SameTag(Gap),
     /// Loads a word of a locked node's pair, or one of its links.
     Learn(Word),
@@ -122,7 +121,7 @@ pub(crate) enum Aim {
 /// A step of an update that has written its numbers: it cuts the bundles of the links that it changed.
 #[derive(Clone, Copy)]
 pub(crate) enum PruneStep {
-    /// Looks at the announcement of a pass, and of those behind it.
+    /// Looks at the announcement of a pass, and of those after it.
     Look(u32),
     /// Walks along the bundle of a link that the plan changes.
     Bundle(usize),
@@ -134,19 +133,19 @@ pub(crate) enum PruneStep {
 /// A step of an update that has marked what it took out, at a place of the plan's links.
 #[derive(Clone, Copy)]
 pub(crate) enum PlainStep {
-    /// Sets the plain link, and those behind it.
+    /// Sets the plain link, and those after it.
     Link(usize),
-    /// Loads its tag where a removal has made it null, and the tags of those behind it.
+    /// Loads its tag if a removal has made it null, and the tags of those after it.
     Tag(usize),
     /// Raises the tag that was loaded.
     Raise(Link),
-    /// Looks at the section of a pass and of those behind it, until the successor may be unlinked.
+    /// Looks at the section of a pass and of those after it, until the successor may be unlinked.
     Wait(u32),
     /// Marks the successor.
     Last,
     /// Sets the link to the successor.
     Unlink,
-    /// Raises the tag of that link where it is null.
+    /// Raises the tag of that link if it is null.
     LastTag,
 }
 
@@ -176,14 +175,14 @@ pub(crate) enum Report {
         val: Option<u64>,
         was: bool,
     },
-    /// A bundle ends with this entry, and this one stood behind it.
+    /// A bundle ends with `entry`, and `next` stood after it.
     Cut {
         entry: u32,
         next: u64,
     },
     Tried {
         outcome: Outcome,
-        /// The number at which it read.
+        /// The number at which the pass read.
         at: u64,
         counts: Counts,
     },
@@ -207,9 +206,9 @@ pub(crate) struct Seat {
     /// The last turns of its search.
     pub(crate) left: Option<Turn>,
     pub(crate) right: Option<Turn>,
-    /// The node that it is to remove, as long as it searches for the successor.
+    /// The node that it is to remove, while it searches for the successor.
     pub(crate) removed: Option<Found>,
-    /// It looks in a snapshot whether the key of a removal is absent.
+    /// Whether it looks in a snapshot for the key of a removal, which may be absent.
     pub(crate) checks: bool,
     pub(crate) plan: Option<Plan>,
     pub(crate) slots: PlanSlots,
@@ -234,7 +233,7 @@ impl Seat {
         }
     }
 
-    /// Gives up: what is locked is given back, and the section is left.
+    /// Gives up: what is locked is unlocked, and the section is left.
     pub(crate) fn give_up(&mut self, outcome: Outcome) -> Result<(), Stop> {
         self.steps.clear();
         self.then(&[

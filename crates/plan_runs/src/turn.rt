@@ -34,7 +34,7 @@ pub(crate) fn turn(
     }
 }
 
-// A snapshot that is still open at the end is closed, so that no update waits for it.
+// Whether the pass has a snapshot open. One that is still open at the end is closed, so that no update waits for it.
 fn is_reading(machine: &Machine, number: u32) -> bool {
     machine
         .view(number)
@@ -94,7 +94,7 @@ fn begin_try(machine: &Machine, seat: &mut Seat) -> Result<(), Stop> {
     begin_section(seat, false)
 }
 
-// Enters, and reads at what the load behind the announcement finds.
+// Enters, and reads at the number that the load after the announcement finds.
 pub(crate) fn begin_section(seat: &mut Seat, fix: bool) -> Result<(), Stop> {
     seat.then(&[
         Step::Enter,
@@ -104,7 +104,7 @@ pub(crate) fn begin_section(seat: &mut Seat, fix: bool) -> Result<(), Stop> {
     ])
 }
 
-/// The first free node and the first four free entries of a pass. None where there are fewer.
+/// The first free node and the first four free entries of a pass. None if there are fewer.
 fn slots(machine: &Machine, number: u32) -> Option<PlanSlots> {
     let free = &machine.view(number)?.free;
     let [node, ..] = free.nodes.as_slice() else {
@@ -192,7 +192,7 @@ fn has_waiting(view: &View) -> bool {
     !(view.retired.is_empty() && view.batch.is_empty())
 }
 
-// Looks at the other sections, one after another. A pass that is alone goes in and out of its section.
+// Looks at the other sections, one after another. A pass that is alone enters and leaves its section.
 fn settle(
     alloc: Global,
     machine: &mut Machine,

@@ -63,7 +63,7 @@ fn loaded(machine: &Machine, seat: &mut Seat, step: WalkStep, value: u64) -> Res
     }
 }
 
-// At an entry its number is loaded next; where there is none the link is null.
+// At an entry its number is loaded next; if there is no entry the link is null.
 fn go_on(machine: &Machine, seat: &mut Seat) -> Result<(), Stop> {
     if machine.view(seat.number).map_or(0, entry_at) == 0 {
         return Ok(());
@@ -110,7 +110,7 @@ fn descend(seat: &mut Seat, node: u32, key: u64, found: u64) -> Result<(), Stop>
     ])
 }
 
-// A look-up tells what it has found. One for a removal whose search has not found its key ends the try.
+// A look-up reports what it has found. One for a removal whose search has not found its key ends the try.
 fn found(
     machine: &Machine,
     seat: &mut Seat,

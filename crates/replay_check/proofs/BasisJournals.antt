@@ -1,4 +1,4 @@
--- What a right journal tells of the basis of the reply lines, and of the verdict.
+-- What follows from a right journal for the basis of the reply lines, and for the verdict.
 use Rattle.std.proofs.Common.{◌≡◌, ℕ, ◌+◌, ◌-◌, ◌<◌, ◌≤◌, List, [], length, get_or, inl, inr, refl, sym, ap, ◌∙◌, arith}
 use Rattle.std.specs.Borrow.{Bor}
 use Rattle.std.proofs.lemmas.List.{length-map, length-take, length-drop}

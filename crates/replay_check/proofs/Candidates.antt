@@ -58,7 +58,7 @@ module _ (s : Setting) (rising : Rises s.dir) (last : Option Reply) (line : ℕ)
     before = own.before;
   }
 
-  -- whether its key was there is told by the history
+  -- the history determines whether its key was there
   same_was : (request : Request) (name : List ℕ) (change : Change) (at : ℕ) (was told : Bool) → IsOwn s line request at was → UpdateStands s line name change told at → was ≡ told
   same_was request name change at was told own stands =
       let same : own.update ≡ record { client = s.client; line = line; key = stands.key; change = change } = same_Some _ _ (sym own.here ∙ stands.update) in

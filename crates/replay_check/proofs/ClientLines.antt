@@ -104,7 +104,7 @@ none_made dir lines line place rising split none u same made =
           ]
     ]
 
--- a request that asks for a change speaks of the name of its key
+-- a request that asks for a change has the name of its key
 pub change_named : (request : Request) (asked : AskedChange) → asked_change request ≡ Some asked → requested_name request ≡ Some asked.name
 change_named (Put name val) asked is = ap (λ (a : AskedChange). Some a.name) (same_Some _ asked is)
 change_named (PutNew name val) asked is = ap (λ (a : AskedChange). Some a.name) (same_Some _ asked is)
@@ -114,7 +114,7 @@ change_named (ListRequest query) asked is = absurd (none-some asked is)
 change_named (ListV1 query) asked is = absurd (none-some asked is)
 change_named Next asked is = absurd (none-some asked is)
 
--- what is told is the one update that is of the number
+-- what is found is the one update that has the number
 pub told_is : (dir : List (List ℕ)) (lines : List RequestLine) (client line : ℕ) (found : Option Told) (u : Update) → Rises dir → Rise lines → u.client ≡ client → u.line ≡ line
     → Any (Makes dir u) lines → IsToldBy dir lines client line found → option_map (λ (told : Told). told.update) found ≡ Some u
 told_is dir lines client line None u names rising by number made told = absurd (told u number made)

@@ -19,7 +19,7 @@ UpTo at a = IfSome a.placed.at (λ place. place ≤ at)
 abbrev one : RequestLine → Placed → Answered
 one l p = record { asked = l; placed = p }
 
--- the greatest place with one answer more, whose place is not below it
+-- the greatest place with one more answer, whose place is not below it
 module _ (earlier : List Answered) (a : Answered) (seen : ℕ) (has : HasSeen earlier seen) where
   front : (at : ℕ) → All (UpTo at) (earlier ++ a ∷ []) → All (UpTo at) earlier
   front at h = λ k d inside. subst (UpTo at) (get_or_append_left earlier (a ∷ []) d k inside) (h k d (omega (arith, length_push earlier a, inside)))

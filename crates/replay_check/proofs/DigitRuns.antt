@@ -55,7 +55,7 @@ each_not xs i each inside = by_test (is_ascii_digit (get_or xs i 0)) (each_at no
     by_test true h = sym h
     by_test false h = refl
 
--- behind a front that ends with a digit stand other bytes
+-- after a front that ends with a digit stand other bytes
 pub end_is : (front tail : List ℕ) (end : ℕ) → Each no_digit tail → 0 < length front → is_ascii_digit (get_or front (length front - 1) 0) ≡ true → IsLastEnd (front ++ tail) end → end ≡ length front
 end_is front tail end others some digit last =
     let long = length-append front tail in
@@ -77,7 +77,7 @@ end_is front tail end others some digit last =
           ]
     ]
 
--- digits at the end, behind another byte
+-- digits at the end, after another byte
 pub start_is : (front : List ℕ) (b : ℕ) (ds : List ℕ) (start : ℕ) → Each is_ascii_digit ds → is_ascii_digit b ≡ false → IsLastStart (front ++ b ∷ ds) start → start ≡ length front + 1
 start_is front b ds start digits other last =
     let long = length-append front (b ∷ ds) in

@@ -99,11 +99,11 @@ one_number (part ∷ parts) rising zero i j l m first second same =
 one_number (part ∷ parts) rising (suc number) i j l m first second same =
     one_number parts (All-tail (λ (p : ClientPart). Rise (request_lines p)) part parts rising) number i j l m first second same
 
--- what is behind the last line of a text
+-- what stands after the last line of a text
 abbrev pub no_line : Bor (List ℕ)
 no_line = record { ref_ptr = (0, 0); now = [] }
 
--- what was told at a place of the lines
+-- what was found at a place of the lines
 pub next_there : (c : Checked) (us vs : List Update) (lines : List (Bor (List ℕ))) (i : ℕ) (d : Bor (List ℕ)) (found told : Option Told) → us ≡ vs → i < length lines → found ≡ told
     → IsNext c us (get_or lines i d).now found → IsNext c vs (text_at (texts_of lines) i) told
 next_there c us vs lines i d found told same inside is next =

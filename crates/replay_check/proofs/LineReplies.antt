@@ -1,4 +1,4 @@
--- What a reply line tells, and which reply is found for it.
+-- What a reply line says, and which reply is found for it.
 use Rattle.std.proofs.Common.{◌≡◌, ℕ, ◌^◌, ◌<◌, List, ◌∷◌, ◌++◌, length, Option, Some, None, IfSome, refl, sym, ap, ◌∙◌, subst}
 use Rattle.std.specs.Option.{unwrap_or, IsSome}
 use Rattle.std.proofs.lemmas.Bool.{false≢true}

@@ -15,7 +15,7 @@ use Rattle.replay_check.specs.Looking.{AreMade}
 use Rattle.replay_check.proofs.UsedBefore.{mark, count_none, count_cons, counts_add, line_of_update}
 use Rattle.text_laws.proofs.ReplyPlaces.{first_within}
 
--- ---- what right journal lines tell
+-- ---- what follows from right journal lines
 
 module _ (c : Checked) where
   made_of : (earlier : List Update) (texts : List (List ℕ)) (us : List Update) → AreJournal c earlier texts us → (i : ℕ) (u : Update) → slice_get us i ≡ Some u
@@ -206,7 +206,7 @@ module _ (c : Checked) (us : List Update) (made : AreMade c us) where
       let all = count_all (λ (u : Update). nat_lt (place u) (requests_of c.parts)) us (λ i u here. is_below (place u) (requests_of c.parts) (within i u here)) in
       omega (arith, few, all)
 
--- the first wrong line of a journal stands behind no more right ones
+-- the first wrong line of a journal stands after no more right ones
 pub few_before : (c : Checked) (texts : List (List ℕ)) (place : ℕ) → IsWrongUpdate c texts place → place ≤ requests_of c.parts
 few_before c texts place wrong =
     let few = few_updates c wrong.updates (are_made c (take place texts) wrong.updates wrong.right) in

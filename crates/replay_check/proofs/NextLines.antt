@@ -1,4 +1,4 @@
--- A client whose first lines are right: at its first line, behind one line more, and before a wrong line.
+-- A client whose first lines are right: at its first line, after one more line, and before a wrong line.
 use Rattle.std.proofs.Common.{◌≡◌, ℕ, suc, ◌+◌, ◌^◌, ◌<◌, ◌≤◌, Bool, true, false, cond, Any, List, [], ◌∷◌, ◌++◌, length, take, Option, Some, None, IfSome, is_some, if◌then◌else◌, sym, ap, ◌∙◌, subst, arith}
 use Rattle.std.specs.List.{slice_get}
 use Rattle.std.specs.Option.{unwrap_or, ForSome}
@@ -155,7 +155,7 @@ module _ (c : Checked) (updates : List Update) (texts : List (List ℕ)) (number
         let sum : new.first + new.next ≡ first_reply c number + suc n = let first = go.first in let at = come.first in let step = go.next in omega arith in
         due_line (record new { next = suc n }) (suc n) _ next seen_now follows (subst (λ (k : ℕ). IsDueAt texts k new.seen new.due) sum go.due)
 
-    -- behind one right line more
+    -- after one more right line
     pub come_more : HasCome c updates texts number new
     come_more =
         let step : suc n ≡ new.next = let next = go.next in omega arith in

@@ -73,7 +73,7 @@ module _ (s : Setting) (rising : Rises s.dir) (earlier : List Answered) (asked :
   no_own at none = λ i u here own.
       absurd (subst (λ (v : Update). ¬ (IsOf s asked.line v)) (get_or_from_slice_get s.updates i u u here) (none i u (slice_get_within s.updates i u here)) own)
 
-  -- refused, where the line has no update
+  -- refused, if the line has no update
   pub refused_found : (found : Option Reply) → MakesNone s asked.line
       → IsTheReply s (last_listing earlier) asked None found → IsFound s earlier asked None found
   refused_found found none the = fit_from None found tt (no_own None none) the
@@ -83,7 +83,7 @@ module _ (s : Setting) (rising : Rises s.dir) (earlier : List Answered) (asked :
   elsewhere at i u here own other = λ placed is fit. other (sym is ∙ fit.own i u here own)
 
   module _ (seen : ℕ) (has : HasSeen earlier seen) (at : ℕ) where
-    -- behind the greatest place, or beyond the history, none is fit
+    -- after the greatest place, or beyond the history, none is fit
     pub too_low : at < seen → IsFound s earlier asked (Some at) None
     too_low low = λ placed is fit.
         let order : KeepsOrder s earlier asked.line at = subst (λ (o : Option ℕ). IfSome o (KeepsOrder s earlier asked.line)) is fit.answered.order in

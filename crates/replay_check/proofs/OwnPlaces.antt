@@ -25,7 +25,7 @@ stays us u client line (Some place) other h =
     ∙ ap (λ (w : Update). Some w) (get_or_append_left us (u ∷ []) v i inside ∙ get_or_from_slice_get us i v v h.1.1.1.0) in
     (i, (v, (h.1.1.0, (there, record { by = h.1.1.1.1.by; for_line = h.1.1.1.1.for_line }))))
 
--- the update is the line's: it stands behind the others
+-- the update is the line's: it stands after the others
 enters : (us : List Update) (u : Update) (client line : ℕ) → IsOf (history_of us client) line u → IsOwnPlace (history_of (us ++ u ∷ []) client) line (Some (length us + 1))
 enters us u client line own =
     let there : slice_get (us ++ u ∷ []) (length us) ≡ Some u =

@@ -29,7 +29,7 @@ use Rattle.answer_text.specs.InRange.{HasRecord, IsPageOf, IsReplyOf}
 use Rattle.client_run.specs.Listing.{HasPageInRange}
 use Rattle.replay_check.specs.Answering.{IsLook, kept_by, absent_by, own_reply, next_page, IsRefusal}
 
--- the change puts, where it puts, a value below the count
+-- the change puts, if it puts, a value below the count
 abbrev pub PutsBelow : ℕ → Change → Type 0
 PutsBelow count (PutVal val) = val < count
 PutsBelow count Remove = Unit {0}

@@ -26,7 +26,7 @@ IsTheReply s last asked at found = MatchOption found ((reply : Reply) → ¬ (Is
 
 -- ---- the line's own update stands at the place
 
--- `was` tells whether the update's key was there just before it
+-- `was` says whether the update's key was there right before it
 pub record IsOwn (s : Setting) (line : ℕ) (request : Request) (at : ℕ) (was : Bool) : Type 0 where
   pub update : Update
   pub here : update_at s at ≡ Some update
@@ -59,7 +59,7 @@ IsByKey dir name by_key found = (key : ℕ) × (IsRank dir name key × (found �
 abbrev pub IsListedFrom : List (List ℕ) → List Pair → ListQuery → Reply → Type 0
 IsListedFrom dir m query reply = (point : Option TokenPoint) × (IsPointOf query point × (reply ≡ Listed query (page_of dir query point m)))
 
--- the page behind another
+-- the page after another
 abbrev pub next_page : List (List ℕ) → List Pair → Resumed → Reply
 next_page dir m next = Listed next.query (page_of dir next.query (Some next.point) m)
 
@@ -79,7 +79,7 @@ IsLook dir m last Next found = MatchOption (next_of dir last) (found ≡ None) (
 abbrev pub slot_reply : ℕ → ℕ → Option Reply
 slot_reply slots used = if nat_le slots used then Some NoSlot else None
 
--- of a LIST, by where its token tells it to begin
+-- of a LIST, by where it begins according to its token
 abbrev pub start_reply : Start → Option Reply
 start_reply Bad = Some BadToken
 start_reply start = None

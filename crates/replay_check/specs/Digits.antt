@@ -6,7 +6,7 @@ use Rattle.std.specs.Char.{is_ascii_digit}
 abbrev pub byte_at : List ℕ → ℕ → ℕ
 byte_at text i = slice_index_or text i 0
 
--- so many digits stand at the front, and no more
+-- exactly this many digits stand at the front
 pub record IsFrontRun (text : List ℕ) (len : ℕ) : Type 0 where
   pub within : len ≤ length text
   pub digits : (i : ℕ) → i < len → is_ascii_digit (byte_at text i) ≡ true
@@ -24,6 +24,6 @@ pub record IsLastStart (text : List ℕ) (start : ℕ) : Type 0 where
   pub digits : (i : ℕ) → start ≤ i → i < length text → is_ascii_digit (byte_at text i) ≡ true
   pub before : 0 < start → is_ascii_digit (byte_at text (start - 1)) ≡ false
 
--- how a journal line begins, and what stands behind it
+-- how a journal line begins, and what stands after it
 abbrev pub start_of_journal : ℕ → ℕ → List ℕ → List ℕ
 start_of_journal at client rest = codes "{\"At\":" ++ (decimal at ++ (codes ",\"Client\":" ++ (decimal client ++ rest)))

@@ -1,3 +1,4 @@
+-- The definitions of the check of a written text.
 pub mod Answering
 pub mod Digits
 pub mod Judging

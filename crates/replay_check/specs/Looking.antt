@@ -17,7 +17,7 @@ use Rattle.replay_check.specs.Own.{AreOwn}
 use Rattle.replay_check.specs.Telling.{IsRead, checked}
 use Rattle.replay_check.specs.Turns.{HasSeen, used_before}
 
--- ---- what the lines are looked at beside
+-- ---- what the lines are checked against
 
 -- the texts of lines
 abbrev pub texts_of : List (Bor (List ℕ)) → List (List ℕ)
@@ -56,13 +56,13 @@ abbrev pub IsLookedAt : Checked → List Update → ℕ → List Answered → Re
 IsLookedAt c updates client earlier asked text found =
     MatchOption found ((placed : Placed) → ¬ (IsReplyLine c updates client earlier asked text placed)) (IsReplyLine c updates client earlier asked text)
 
--- where the text is the line of a right reply, the line is due at the place of the reply, and one without a place where
--- the lines before it have come to
+-- if the text is the line of a right reply, the line is due at the place of the reply, and one without a place at the
+-- place that the lines before it have reached
 abbrev pub IsDue : Checked → List Update → ℕ → List Answered → RequestLine → List ℕ → Client → Type 0
 IsDue c updates number earlier asked text client =
     (placed : Placed) → IsReplyLine c updates number earlier asked text placed → client.due ≡ unwrap_or placed.at client.seen
 
--- the place is that of the line's text, where this is not below the places before it
+-- the place is that of the line's text, if this is not below the places before it
 abbrev pub IsDueAt : List (List ℕ) → ℕ → ℕ → ℕ → Type 0
 IsDueAt texts line seen due =
     (at : Option ℕ) (rest : List ℕ) → IfSome at (λ n. n < 2 ^ 64) → IfSome at (λ n. seen ≤ n) → line < length texts
@@ -70,7 +70,7 @@ IsDueAt texts line seen due =
 
 -- ---- a client
 
--- the client's first reply lines are right, and the rest is told by these answers
+-- the client's first reply lines are right, and these answers determine the rest
 pub record HasCome (c : Checked) (updates : List Update) (texts : List (List ℕ)) (number : ℕ) (client : Client) : Type 0 where
   pub first : client.first ≡ first_reply c number
   pub slots : client.slots ≡ c.slots number
@@ -94,7 +94,7 @@ pub record IsReadyAt (c : Checked) (updates : List Update) (texts : List (List �
   pub come : HasCome c updates texts number client
   pub later : client.next < length (lines_of c.parts number) → place ≤ client.due
 
--- so it is for each client
+-- this holds for each client
 pub record AreReady (c : Checked) (updates : List Update) (texts : List (List ℕ)) (place : ℕ) (clients : List Client) : Type 0 where
   pub count : length clients ≡ length c.parts
   pub each : (number : ℕ) (client : Client) → slice_get clients number ≡ Some client → IsReadyAt c updates texts number place client
@@ -115,7 +115,7 @@ IsNextFound b number client found =
     (asked : RequestLine) → (come : HasComeOn b number client) → IsAsked b number client asked
     → IsLookedAt (against b) b.updates.now number (answers_of come) asked (text_at (reply_texts (against b) (texts_in b) number) client.next) found
 
--- the client behind one right line more
+-- the client after one more right line
 pub record GoesOn (texts : List (List ℕ)) (asked : Request) (own : Option ℕ) (placed : Placed) (old new : Client) : Type 0 where
   pub first : new.first ≡ old.first
   pub slots : new.slots ≡ old.slots

@@ -1,5 +1,5 @@
 -- Helper: the headline does not rest on this file.
--- What a session is checked against, and what a journal line tells.
+-- What a session is checked against, and what a journal line states.
 use Rattle.std.specs.Prelude.{◌≡◌, ℕ, ◌<◌, ◌≤◌, List, [], map, length, Any, Option, Some, MatchOption, slice_get}
 use Rattle.std.specs.Borrow.{Bor}
 use Rattle.std.specs.Option.{unwrap_or}
@@ -26,8 +26,8 @@ pub record IsRead (session : Session) (dir : List (List ℕ)) : Type 0 where
   pub small : IsSmall session
   pub directory : HoldsEachOnce session.names dir
 
--- what a text is checked against: each client has the node slots that are named, or without a number what its lines ask
--- for
+-- what a text is checked against: each client has the node slots that are named, or, without a number, what its lines
+-- ask for
 abbrev pub checked : Session → List (List ℕ) → Option ℕ → Checked
 checked session dir named = record {
   dir = dir;
@@ -57,7 +57,7 @@ pub record IsMadeAt (dir : List (List ℕ)) (lines : List RequestLine) (client l
   pub asked_is : slice_get lines told.request ≡ Some asked
   pub makes : Makes dir told.update asked
 
--- what the client's line with this number would make, where it would make an update
+-- what the client's line with this number would make, if it would make an update
 abbrev pub IsToldBy : List (List ℕ) → List RequestLine → ℕ → ℕ → Option Told → Type 0
 IsToldBy dir lines client line found =
     MatchOption found ((u : Update) → u.line ≡ line → ¬ (Any (Makes dir u) lines)) (IsMadeAt dir lines client line)
@@ -71,12 +71,12 @@ pub record IsSplitAt (lines : List RequestLine) (line place : ℕ) : Type 0 wher
 abbrev pub named_change : Bor (List ℕ) × Change → AskedChange
 named_change found = record { name = found.0.now; change = found.1 }
 
--- the text is the journal line of the update that is told, or of none
+-- the text is the journal line of the update that was found, or of none
 abbrev pub IsNext : Checked → List Update → List ℕ → Option Told → Type 0
 IsNext c earlier text found =
     MatchOption found ((u : Update) → ¬ (IsJournalLine c earlier text u)) (λ told. IsTold c told × IsJournalLine c earlier text told.update)
 
--- what the journal lines tell: their updates, with the places of the requests that made them, or the first wrong line
+-- what the journal lines state: their updates, with the places of the requests that made them, or the first wrong line
 abbrev pub IsJournalOf : Checked → List (List ℕ) → Journal → Type 0
 IsJournalOf c texts (Right updates own) = AreJournal c [] texts updates.items × AreOwn c.parts updates.items own.items
 IsJournalOf c texts (Wrong place) = IsWrongUpdate c texts place

@@ -11,7 +11,7 @@ use Rattle.replay_check.specs.declared.replay.Replay.{Replay}
 use Rattle.replay_check.specs.declared.turns.Client.{Client}
 use Rattle.replay_check.specs.Replaying.{IsReplayed}
 
--- the place of the line's update in the history, counted from 1, or None where it has none
+-- the place of the line's update in the history, counted from 1, or None if it has none
 abbrev pub IsOwnPlace : Setting → ℕ → Option ℕ → Type 0
 IsOwnPlace s line None = MakesNone s line
 IsOwnPlace s line (Some place) = (i : ℕ) × ((u : Update) × ((place ≡ i + 1) × ((slice_get s.updates i ≡ Some u) × IsOf s line u)))
@@ -20,13 +20,13 @@ IsOwnPlace s line (Some place) = (i : ℕ) × ((u : Update) × ((place ≡ i + 1
 abbrev pub used_before : List Update → ℕ → RequestLine → ℕ
 used_before updates client l = count_by (λ (u : Update). (u.client == client) && nat_lt u.line l.line) updates
 
--- the greatest place of these answers, or 0: a number is at least all of their places exactly where it is at least this
+-- the greatest place of these answers, or 0: a number is at least all of their places exactly if it is at least this
 -- one
 pub record HasSeen (earlier : List Answered) (seen : ℕ) : Type 0 where
   pub upto : All (λ (a : Answered). IfSome a.placed.at (λ place. place ≤ seen)) earlier
   pub least : (at : ℕ) → All (λ (a : Answered). IfSome a.placed.at (λ place. place ≤ at)) earlier → seen ≤ at
 
--- the reply is right for the request behind these answers, and stands at the place of the line's update, where it has
+-- the reply is right for the request after these answers, and stands at the place of the line's update, if it has
 -- one
 pub record IsFit (s : Setting) (earlier : List Answered) (asked : RequestLine) (placed : Placed) : Type 0 where
   pub answered : IsAnswered s earlier asked placed

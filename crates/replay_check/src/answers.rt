@@ -23,8 +23,8 @@ use list_v1::{plain_query, point_of};
 use page_rules::PageCursor;
 use std::alloc::Global;
 
-/// The reply of a request that was refused, and so has no place: `used` are the updates of its client's earlier lines.
-/// None where it can't have been refused.
+/// The reply of a request that was refused, and so has no place: `used` is the number of updates of its client's
+/// earlier lines. None if it cannot have been refused.
 pub(crate) fn refused(
     alloc: Global,
     dir: &Directory,
@@ -47,7 +47,7 @@ pub(crate) fn refused(
     }
 }
 
-// An update is refused where its client has used its slots.
+// An update is refused if its client has used its slots.
 fn without_slot(used: u64, slots: u64) -> Option<Reply>
     ensures reply { result ≡ slot_reply slots used }
     ensures in_range { (dir : List (List ℕ)) → ForSome result (HasPageInRange dir) }
@@ -92,8 +92,8 @@ fn refused_next(
     }
 }
 
-/// The reply of a request whose own update stands at the place: `was` tells whether the key was there just before it.
-/// None where the request can't have made it.
+/// The reply of a request whose own update stands at the place: `was` says whether the key was there right before it.
+/// None if the request cannot have made it.
 pub(crate) fn of_update(request: &Request, was: bool) -> Option<Reply>
     ensures { result ≡ own_reply request.now was }
 {
@@ -105,7 +105,7 @@ pub(crate) fn of_update(request: &Request, was: bool) -> Option<Reply>
     }
 }
 
-/// The reply of a request that made no update, where the map is that at its place. None where it can't have looked
+/// The reply of a request that made no update, where the map is that at its place. None if it cannot have looked
 /// there.
 pub(crate) fn of_look(
     alloc: Global,
@@ -240,7 +240,7 @@ fn page_from(
     ensures page { IfOk result (λ page. page ≡ page_of dir.now query.now (option_copied point.entry) map.now) }
     ensures in_range { IfOk result (IsInRange dir.now) }
 {
-    // the call's clauses tell the proof that the keys rise
+    // The call's clauses give the proof that the keys rise.
     let _keys = map.len();
     let mut cursor = PageCursor::new(alloc, dir, query, point);
     while let Some(rank) = cursor.next_rank() {
@@ -252,7 +252,7 @@ fn page_from(
     Ok(cursor.finish())
 }
 
-/// The rank of a name that the directory has. It is searched for only where the hint is not the rank.
+/// The rank of a name that the directory has. It is searched for only if the hint is not the rank.
 pub(crate) fn rank_of(dir: &Directory, name: &Text, hint: usize) -> u64
     requires { Contains dir.now name.now }
     ensures { IsRank dir.now name.now result }

@@ -59,8 +59,8 @@ fn slots_of(part: &ClientPart, slots: Option<u32>) -> u64
     }
 }
 
-/// Where a line is to be looked at, behind lines up to this place. A refused request has no place: it is looked at at
-/// once, and so is a line that shows a lower place, which is wrong.
+/// The place at which a line is to be looked at, after lines with places up to this one. A refused request has no
+/// place: its line is looked at at once, and so is a line that shows a lower place, which is wrong.
 pub(crate) fn due_at(lines: &[&[u8]], line: usize, seen: u64) -> u64
     ensures least { seen ≤ result }
     ensures due { IsDueAt (texts_of lines.now) line seen result }

@@ -23,7 +23,7 @@ use request_lines::Session;
 use std::alloc::Global;
 
 /// Whether the text is that of a legal run of the session, or which of its lines is the first wrong one. Each client
-/// has `slots` node slots, or where none are given one more than it has lines that may make an update.
+/// has `slots` node slots, or, if none are given, one more than it has lines that may make an update.
 pub fn check_text(
     alloc: Global,
     session: &Session,
@@ -74,7 +74,7 @@ fn check_lines(
     }
 }
 
-// The verdict where the journal lines are right.
+// The verdict if the journal lines are right.
 fn check_replies(alloc: Global, basis: &Basis<'_>) -> Result<Verdict, NoMemory>
     requires { HasJournal basis.now }
     ensures { IfOk result (IsVerdict (against basis.now) (texts_in basis.now)) }
@@ -89,7 +89,7 @@ fn check_replies(alloc: Global, basis: &Basis<'_>) -> Result<Verdict, NoMemory>
     }
 }
 
-// Whether a last line tells that there are so many updates.
+// Whether a last line states this number of updates.
 fn tells(alloc: Global, updates: usize, text: &[u8]) -> Result<bool, NoMemory>
     ensures yes { IfOk result (λ same. same ≡ true → text.now ≡ line_of (last_data updates)) }
     ensures no { IfOk result (λ same. same ≡ false → ¬ (text.now ≡ line_of (last_data updates))) }

@@ -1,4 +1,4 @@
-// The journal of a written text: the updates that its lines tell.
+// The journal of a written text: the updates that its lines state.
 ghost use Rattle.std.specs.Prelude.{◌≡◌, ◌^◌, ◌<◌, true, false, ℕ, List, [], map, length, All, Any, Some, IfSome, IfOk, is_none, slice_index_or};
 ghost use Rattle.std.specs.Option.{option_map};
 ghost use Rattle.std.specs.Borrow.{Bor};
@@ -23,7 +23,7 @@ use key_names::{Directory, NoMemory, Text};
 use request_lines::{ClientPart, Session};
 use std::alloc::Global;
 
-/// What the journal lines tell.
+/// What the journal lines state.
 #[derive(Drop)]
 pub(crate) enum Journal {
     /// All are right: their updates, and the places of the requests that made them.
@@ -71,7 +71,7 @@ pub(crate) fn read_journal(
     Ok(Journal::Right { updates, own })
 }
 
-// The update that the line behind these updates tells, where it is right.
+// The update that the line after these updates states, if it is right.
 fn next(
     alloc: Global,
     session: &Session,
@@ -121,7 +121,7 @@ fn tells(
     Ok(line.as_bytes() == text)
 }
 
-// The update that the request line of the text's numbers would make, where there is such a line.
+// The update that the request line of the text's numbers would make, if there is such a line.
 fn update_of(session: &Session, dir: &Directory, text: &[u8]) -> Option<Told>
     requires { IsRead session.now dir.now }
     ensures sound { (c : Checked) → IsOfSession c session.now dir.now → IfSome result (IsTold c) }
@@ -134,7 +134,7 @@ fn update_of(session: &Session, dir: &Directory, text: &[u8]) -> Option<Told>
     update_in(part, dir, client as u32, line)
 }
 
-// The update that the client's line with this number would make, where there is one.
+// The update that the client's line with this number would make, if there is one.
 fn update_in(part: &ClientPart, dir: &Directory, client: u32, line: u64) -> Option<Told>
     requires rising { Rise (request_lines part.now) }
     requires known { All (IsAskable dir.now) (request_lines part.now) }

@@ -1,6 +1,6 @@
 //! Whether a written text is the text of a legal run of a session, or which of its lines is the first wrong one. The
 //! layer above uses `check_text`. The journal is read first, then the last line, then each client's replies, each
-//! beside the map as it was at the reply's place.
+//! compared with the map as it was at the reply's place.
 #![tactic(auto)]
 
 mod answers;

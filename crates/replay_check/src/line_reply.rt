@@ -22,7 +22,7 @@ use key_names::{Directory, NoMemory};
 use request_lines::Asked;
 use std::alloc::Global;
 
-/// The reply of the line of a request. None where the line is wrong.
+/// The reply of the line of a request. None if the line is wrong.
 pub(crate) fn line_reply(
     alloc: Global,
     dir: &Directory,
@@ -73,7 +73,7 @@ fn is_elsewhere(at: Option<u64>, place: u64) -> bool
     }
 }
 
-// The reply, where the text is its line.
+// The reply, if the text is its line.
 fn told(
     alloc: Global,
     dir: &Directory,

@@ -1,5 +1,5 @@
 // The reply lines of a written text, looked at in the order of their places: each client's lines one after the other,
-// while one map goes along the history.
+// while one map advances along the history.
 ghost use Rattle.std.specs.Prelude.{◌≡◌, ◌+◌, ◌<◌, ◌^◌, List, length, Option, IfOk, OnOk};
 ghost use Rattle.std.specs.Option.{ForSome};
 ghost use Rattle.bucket_terms.specs.LegalRun as run;
@@ -17,7 +17,7 @@ use bucket_terms::{Placed, Request};
 use key_names::NoMemory;
 use std::alloc::Global;
 
-/// The number of the first reply line that is wrong, counted from 0. None where all are right.
+/// The number of the first reply line that is wrong, counted from 0. None if all are right.
 pub(crate) fn first_wrong(alloc: Global, basis: &Basis<'_>) -> Result<Option<usize>, NoMemory>
     requires { IsBasis basis.now }
     ensures { IfOk result (IsFirstWrong (against basis.now) basis.now.updates.now (texts_in basis.now)) }
@@ -71,7 +71,7 @@ fn look_on(
     Ok(())
 }
 
-// Looks at a client's next line: it goes on behind a right one, and stops at a wrong one for good.
+// Looks at a client's next line: the client goes on after a right one, and stops for good at a wrong one.
 fn look(
     alloc: Global,
     basis: &Basis<'_>,
@@ -101,7 +101,7 @@ fn look(
     Ok(())
 }
 
-// The reply of a client's next line. None where the line is wrong.
+// The reply of a client's next line. None if the line is wrong.
 fn next_reply(
     alloc: Global,
     basis: &Basis<'_>,
@@ -138,7 +138,7 @@ fn next_reply(
     )
 }
 
-// The client behind its next line, which is right.
+// The client after its next line, which is right.
 fn go_on(client: &mut Client, request: &Request, own: Option<u64>, placed: Placed, lines: &[&[u8]])
     requires used { client.old.used < 2 ^ 63 }
     requires line { client.old.first + client.old.next < 2 ^ 63 }
@@ -160,7 +160,7 @@ fn is_listing(request: &Request) -> bool
     matches!(request, Request::List(_) | Request::Next)
 }
 
-// The first line that was not found right: behind the client's right ones.
+// The first line that was not found right: the one after the client's right ones.
 fn first_unfinished(basis: &Basis<'_>, clients: &[Client]) -> Option<usize>
     requires basis { IsBasis basis.now }
     requires ready { AreReadyOn basis.now (length basis.now.updates.now + 1) clients.now }

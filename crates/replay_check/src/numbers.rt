@@ -1,4 +1,4 @@
-// The numbers of a written line. A line that has them at other places is none of a run, and is found out when it is
+// The numbers of a written line. A line that has them at other places is not one of a run, which shows when it is
 // compared.
 ghost use Rattle.std.specs.Prelude.{◌≡◌, ℕ, ◌^◌, ◌<◌, ◌++◌, ◌∷◌, [], List, drop, Option, Some, None, IfSome, false, decimal};
 ghost use Rattle.std.specs.Char.{is_ascii_digit};
@@ -6,7 +6,7 @@ ghost use Rattle.key_map.specs.declared.update.Change.{Change};
 ghost use Rattle.answer_text.specs.Pieces.{place_text, verb_end_text};
 ghost use Rattle.replay_check.specs.Digits.{IsFrontRun, IsLastEnd, IsLastStart, start_of_journal};
 
-/// The place that a reply line shows. None where it shows none.
+/// The place that a reply line shows. None if it shows none.
 pub(crate) fn place_in(line: &[u8]) -> Option<u64>
     ensures { (at : Option ℕ) (rest : List ℕ) → IfSome at (λ n. n < 2 ^ 64) → line.now ≡ place_text at ++ 44 ∷ rest → result ≡ at }
 {
@@ -21,7 +21,7 @@ pub(crate) fn client_in(line: &[u8]) -> Option<u64>
     first_number(behind(behind(at, digits_len(at)), CLIENT_LABEL))
 }
 
-/// The request line of a journal line: the last number that it has.
+/// The request line of a journal line: its last number.
 pub(crate) fn line_in(line: &[u8]) -> Option<u64>
     ensures { (front : List ℕ) (n : ℕ) (change : Change) → n < 2 ^ 64 → line.now ≡ front ++ 58 ∷ (decimal n ++ verb_end_text change) → result ≡ Some n }
 {
@@ -35,7 +35,7 @@ const PLACE_LABEL: usize = 6;
 
 const CLIENT_LABEL: usize = 10;
 
-// What stands behind so many bytes.
+// What stands after this many bytes.
 fn behind(text: &[u8], len: usize) -> &[u8]
     ensures { result.now ≡ drop len text.now }
 {
@@ -62,7 +62,7 @@ fn digits_len(text: &[u8]) -> usize
     len
 }
 
-// The number that these digits write, where there is one and it has no more than 64 bits.
+// The number that these digits write, if there is one and it has no more than 64 bits.
 fn number_of(digits: &[u8]) -> Option<u64>
     ensures number { (n : ℕ) → n < 2 ^ 64 → digits.now ≡ decimal n → result ≡ Some n }
     ensures none { digits.now ≡ [] → result ≡ None }
@@ -73,7 +73,7 @@ fn number_of(digits: &[u8]) -> Option<u64>
     }
 }
 
-// The place behind the last digit, or 0.
+// The place after the last digit, or 0.
 fn last_digit_end(text: &[u8]) -> usize
     ensures { IsLastEnd text.now result }
 {
@@ -84,7 +84,7 @@ fn last_digit_end(text: &[u8]) -> usize
     end
 }
 
-// Where the digits begin with which the text ends.
+// Where the digits at the end of the text begin.
 fn last_digits_start(text: &[u8]) -> usize
     ensures { IsLastStart text.now result }
 {

@@ -8,7 +8,7 @@ use request_lines::Session;
 use std::alloc::Global;
 use std::marker::Model;
 
-/// For each request of a client the place of its update in a history, counted from 1. None where it has none.
+/// For each request of a client the place of its update in a history, counted from 1. None if it has none.
 #[derive(Drop)]
 pub(crate) struct Table {
     places: Vec<Option<u64>>,
@@ -23,7 +23,7 @@ impl Model for Table {
 }
 
 impl Table {
-    // For so many requests without updates.
+    // For this many requests without updates.
     fn new(alloc: Global, requests: usize) -> Result<Table, NoMemory>
         ensures { IfOk result (λ table. table ≡ replicate requests None) }
     {

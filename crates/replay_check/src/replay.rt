@@ -1,4 +1,4 @@
-// The map of a history, brought forward along its updates.
+// The map of a history, advanced along its updates.
 ghost use Rattle.std.specs.Prelude.{◌≡◌, ◌+◌, ◌<◌, length, OnOk};
 ghost use Rattle.replay_check.specs.Replaying.{IsReplayed};
 
@@ -31,7 +31,7 @@ impl Replay {
         }
     }
 
-    /// Brings the map forward by one update.
+    /// Advances the map by one update.
     pub(crate) fn advance(&mut self, updates: &[Update]) -> Result<(), NoMemory>
         requires so_far { IsReplayed self.old updates.now self.old.at }
         requires within { self.old.at < length updates.now }

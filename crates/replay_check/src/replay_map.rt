@@ -1,4 +1,4 @@
-// The map that goes along a history.
+// The map that advances along a history.
 ghost use Rattle.std.specs.Prelude.{◌≡◌, [], length, IfOk, OnOk};
 ghost use Rattle.key_map.specs.Map.{IsMap, first_from, map_get, map_has, map_put, map_remove};
 ghost use Rattle.key_map.specs.History.{updated};
@@ -9,7 +9,7 @@ use std::alloc::Global;
 use std::collections::BTreeMap;
 use std::marker::Model;
 
-/// A map from keys to values. An update, a look and a step of a listing cost one way down a tree each, however many
+/// A map from keys to values. An update, a look and a step of a listing each take one path down a tree, however many
 /// keys there are.
 #[derive(Drop)]
 pub(crate) struct ReplayMap {
@@ -47,7 +47,7 @@ impl ReplayMap {
         self.values.len()
     }
 
-    /// The value of the key, where it is there.
+    /// The value of the key, if it is there.
     pub(crate) fn get(&self, key: u64) -> Option<u64>
         ensures { result ≡ map_get key self.now }
     {
@@ -74,7 +74,7 @@ impl ReplayMap {
         }
     }
 
-    /// Makes the update's change. Tells whether its key was there.
+    /// Makes the update's change. Returns whether its key was there.
     pub(crate) fn apply(&mut self, update: &Update) -> Result<bool, NoMemory>
         ensures was { IfOk result (λ was. was ≡ map_has update.now.key self.old) }
         ensures map { OnOk result (self.new ≡ updated self.old update.now) }

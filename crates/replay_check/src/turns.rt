@@ -37,7 +37,7 @@ pub(crate) struct Client {
     pub(crate) last: Option<Reply>,
 }
 
-/// The reply that the request can have at the place that its line shows, or without one. None where there is no such
+/// The reply that the request can have at the place that its line shows, or without one. None if there is no such
 /// reply.
 pub(crate) fn reply_at(
     alloc: Global,
@@ -63,7 +63,7 @@ pub(crate) fn reply_at(
     }
 }
 
-// A request is refused only where it made no update.
+// A request is refused only if it made no update.
 fn unplaced(
     alloc: Global,
     dir: &Directory,

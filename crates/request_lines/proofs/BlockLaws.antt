@@ -19,7 +19,7 @@ onto_append : (x : ℕ) (parts more : List (List ℕ)) → 0 < length parts → 
 onto_append x [] more some = absurd (omega arith)
 onto_append x (part ∷ parts) more some = refl
 
--- it is cut in front of a byte that passes and behind it
+-- it is cut before a byte that passes, and after it
 split_append : (p : ℕ → Bool) (xs : List ℕ) (y : ℕ) (ys : List ℕ) → p y ≡ true → slice_split p (xs ++ y ∷ ys) ≡ slice_split p xs ++ slice_split p ys
 split_append p [] y ys here = slice_split-cons_yes p y ys here
 split_append p (x ∷ xs) y ys passes =

@@ -336,7 +336,7 @@ pub reading_fine : (text : List ℕ) → IsFineReading (reading_of text)
 unfolding reading_of
 reading_fine text = if_gives IsFineCommand (is_utf8 text) _ _ (λ _. line_fine (fields_of text)) (λ _. tt)
 
--- so is what a function answers that reads
+-- so is what a function that reads returns
 pub fine_answer : (answer : Result Command LineError) (read : Result Command Cause) → IsFineReading read → Reads answer read → IfOk answer IsFineCommand
 fine_answer (Ok command) read fine is = let P : Result Command Cause → Type 0 = IsFineReading in subst P is fine
 fine_answer (Err e) read fine is = tt

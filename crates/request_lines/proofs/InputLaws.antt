@@ -105,7 +105,7 @@ parts_more true ended current l piece pieces = refl
 parts_more false ended current l piece pieces =
     ap (λ (asked : List Asked). ended ++ record { requests = asked } ∷ map part_of pieces) (keeps_option current (asked_of l) (filter_map asked_of piece))
 
--- the parts after one line more
+-- the parts after one more line
 parts_kept : (c : Bool) (p : Progress) (l : Line) (lines : List Line) → begins l ≡ c
     → with_pieces (if c then false else (p.counts.clients == 0)) (ended_by c p) (current_by c p (asked_of l)) (slice_split begins lines)
     ≡ with_pieces (p.counts.clients == 0) p.ended p.current (slice_split begins (l ∷ lines))

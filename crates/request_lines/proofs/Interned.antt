@@ -1,4 +1,4 @@
--- Names that are kept once: what a name more changes, and what holds behind the sort.
+-- Names that are kept once: what one more name changes, and what holds after the sort.
 use Rattle.std.proofs.Common.{◌≡◌, ◌≢◌, ℕ, ◌+◌, ◌<◌, ◌≤◌, List, [], ◌∷◌, ◌++◌, length, map, get_or, set, replicate, take, ext_get_or, refl, sym, ap, ap₂, ◌∙◌, subst, arith, inl, inr, get_or-set_same, get_or-set_other, length-set}
 use Rattle.std.specs.Prelude.{All, Contains, Option, None, Some, slice_index}
 use Rattle.std.specs.List.{range_with_len}
@@ -14,7 +14,7 @@ use Rattle.request_lines.proofs.NameCounts.{rising_count}
 use Rattle.request_lines.specs.declared.leads.Numbered.{Numbered}
 use Rattle.request_lines.specs.Interned.{named, names_kept, AreKept, IsInterned, IsKnownAs, AreGroups, HaveNumbers, AreNumbered, AreRanks, IsRankedBy, number_in, name_of}
 
--- ---- one name more
+-- ---- one more name
 
 named_kept : (ks : List (List ℕ)) (x : List ℕ) (order : List ℕ) → All (λ i. i < length ks) order → named (ks ++ x ∷ []) order ≡ named ks order
 named_kept ks x [] below = refl
@@ -137,7 +137,7 @@ have_numbers ks entries are = record {
 abbrev none : Numbered
 none = record { leads = (0, 0); number = 0 }
 
--- one entry more
+-- one more entry
 pub one_group_more : (ks : List (List ℕ)) (entries : List Numbered) (distinct new : List (List ℕ)) (groups : List ℕ) (place group : ℕ) → AreGroups ks (take place entries) distinct groups
     → place < length entries → IsKnownAs distinct new (name_of ks (get_or entries place none)) group → AreGroups ks (take (place + 1) entries) new (groups ++ group ∷ [])
 one_group_more ks entries distinct new groups place group before within known = record {

@@ -42,7 +42,7 @@ counts_of commands = record {
   last = last_behind 0 commands;
 }
 
--- ---- one command more
+-- ---- one more command
 
 abbrev one_if : Bool → ℕ
 one_if b = if b then 1 else 0
@@ -54,7 +54,7 @@ count_more : (test : Command → Bool) (commands : List Command) (command : Comm
 count_more test commands command =
     sum_by-append (λ c. if test c then 1 else 0) commands (command ∷ []) ∙ ap (λ n. count_by test commands + n) (plain_one (one_if (test command)))
 
--- the entries of one line more
+-- the entries of one more line
 abbrev asked_with : ℕ → Command → ℕ
 asked_with last (says.List query) = query.max_keys
 asked_with last (says.ListV1 query) = query.max_keys

@@ -17,7 +17,7 @@ use Rattle.request_lines.proofs.QueryLaws.{query_read_by}
 use Rattle.request_lines.specs.Texts.{◌>>=◌}
 use Rattle.request_lines.specs.ReadAnswers.{Fails}
 
--- a first piece, and those behind it
+-- a first piece, and those after it
 pieces_more : (so_far : Asking) (piece : List ℕ) (pieces : List (List ℕ)) → pieces_asked so_far (piece ∷ pieces) ≡ (piece_asked so_far piece >>= (λ after. pieces_asked after pieces))
 unfolding piece_asked parameters_read
 pieces_more so_far piece pieces = by_test (length piece == 0)

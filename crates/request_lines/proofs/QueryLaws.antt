@@ -56,7 +56,7 @@ any_append f (x ∷ xs) y = ap (λ b. f x || b) (any_append f xs y) ∙ or_split
     or_split true b c = refl
     or_split false b c = refl
 
--- ---- names that stand behind others
+-- ---- names that stand after others
 
 abbrev behind : List Name → Option Name → Bool
 behind seen None = false
@@ -100,7 +100,7 @@ behind_with seen (Some name) other = by_test (stands_in seen name) refl
     by_test true is = behind_known seen name other is
     by_test false is = behind_more seen name other
 
--- ---- causes of parameters behind some names
+-- ---- causes of parameters after some names
 
 abbrev holds_behind : Version → List Name → List Parameter → Cause → Bool
 holds_behind version seen ps RepeatedParameter = list_any (λ (q : Parameter). behind seen q.name) ps || repeats ps
@@ -220,7 +220,7 @@ parameter_cause_is version seen (Some names.FetchOwner) value = chained version 
 
 -- ---- the first of some causes
 
--- the causes stand in their order, behind this place
+-- the causes stand in their order, after this place
 abbrev Above : ℕ → List Cause → Type 0
 Above place [] = Unit {0}
 Above place (c ∷ cs) = (place < place_of c) × Above (place_of c) cs
@@ -316,7 +316,7 @@ kept_values a held (p ∷ ps) is =
     (λ c. or_thrice (held c) (own a.version a.names p c) (holds_behind a.version (with_name a.names p.name) ps c) ∙ ap (λ b. held c || b) (sym (holds_more a.version a.names p ps c))))
     ∙ ap (values_or (find (λ c. held c || holds_behind a.version a.names (p ∷ ps) c) parameter_causes)) (asked_step a.values p.name p.value ps)
 
--- behind no name
+-- after no name
 have_is : (version : Version) (ps : List Parameter) (c : Cause) → holds_behind version [] ps c ≡ have version ps c
 have_is version ps RepeatedParameter = ap (λ b. b || repeats ps) (any_same (λ (q : Parameter). behind [] q.name) (λ q. false) ps (λ q. no_name q.name) ∙ any_none ps)
   where
@@ -351,7 +351,7 @@ given_none name says other (p ∷ ps) none =
     let each = neither (is_name name p.name) (list_any (λ (q : Parameter). is_name name q.name) ps) none in
     given_none name says (if is_name name p.name then says p.value else other) ps each.1 ∙ ap (λ b. if b then says p.value else other) each.0
 
--- a name is the one of a parameter, so no parameter behind it has that name
+-- a name is the one of a parameter, so no parameter after it has that name
 others_none : (name : Name) (first : Option Name) (ps : List Parameter) → is_name name first ≡ true → list_any (λ (q : Parameter). is_same_name first q.name) ps ≡ false
     → list_any (λ (q : Parameter). is_name name q.name) ps ≡ false
 others_none name None ps is none = cc

@@ -1,4 +1,4 @@
--- Lines that rise between two bounds, as a reader comes to them.
+-- Lines that rise between two bounds, as a reader reaches them.
 use Rattle.std.proofs.Common.{ℕ, ◌^◌, ◌<◌, All, List, [], ◌∷◌, arith}
 use Rattle.std.proofs.lemmas.List.Elements.{All-nil, All-cons, All-weaker}
 use Rattle.std.proofs.lemmas.List.Kept.{AllPairs-cons}

@@ -1,4 +1,5 @@
--- The generated session: how many names and records its first requests have, the names by their places, and what holds of the whole.
+-- The generated session: how many names and records its first requests have, the names by their places, and what
+-- holds of the whole.
 use Rattle.std.proofs.Common.{◌≡◌, ℕ, zero, suc, ◌+◌, ◌*◌, ◌%◌, ◌<◌, ◌≤◌, List, [], ◌∷◌, ◌++◌, length, get_or, codes, Result, Ok, Err, refl, ap, ap₂, sym, subst, ◌∙◌, arith, inl, inr, append_assoc, length-append, add-one}
 use Rattle.std.specs.Prelude.{◌==◌, IfOk, OnOk}
 use Rattle.std.specs.Fmt.{decimal}
@@ -63,7 +64,7 @@ clients_names_few n most =
     let four = length-append (sample_clients_names n 3) (sample_names 3 n) in
     omega (arith, one, two, three, four, names_few 0 n, names_few 1 n, names_few 2 n, names_few 3 n)
 
--- ---- one request more
+-- ---- one more request
 
 pub requests_more : (n client i : ℕ) (front : List Asked) (request : Request) → front ≡ sample_requests n client i
     → request ≡ sample_request (client * sample_puts n + sample_puts i) client i

@@ -35,7 +35,8 @@ texts_first text more inside some =
     ap (map strip_carriage_return) (slice_split_at (λ b. b == 10) text 10 more (inside_no_feeds text inside) refl)
     ∙ ap (λ first. first ∷ texts_of more) (strip_plain text inside some)
 
--- what was kept so far is the beginning of the input's session, and what holds of every session that is read holds of it
+-- what was kept so far is the beginning of the input's session, and what holds of every session that is read holds of
+-- it
 record IsRead (bytes : List ℕ) (p : Progress) (number : ℕ) (texts : List (List ℕ)) : Type 0 where
   half : IsHalfway bytes p number texts
   sound : IsSound p number
@@ -149,7 +150,8 @@ request_within n client i so_far command few before most clients requests entrie
     let now = entries_bound (suc i) in
     within_limits so_far command (omega arith) (omega arith) (omega arith) (omega arith)
 
--- the next request of a client is that of a command, where the counts, the request, its name and its record are
+-- a line with this command is the next request of the client, where the counts, the request, its name and its record
+-- that the command adds are those of this request
 step_by : (bytes text : List ℕ) (n client i : ℕ) (more : List ℕ) (p : Progress) (command : Command) → client < 4 → i < n → n ≤ 40000 → IsInside text → 0 < length text
     → reading_of text ≡ Ok command → IsAt n client i p
     → (counted p.counts command).clients ≡ p.counts.clients
@@ -327,7 +329,7 @@ four_clients n most =
     let third = lines_walk bytes n 2 two (omega arith) most (next_client bytes n 1 (sample_lines 2 n ++ two) (omega arith) most second) in
     lines_walk bytes n 3 [] (omega arith) most (next_client bytes n 2 (sample_lines 3 n ++ []) (omega arith) most third)
 
--- behind the last line all clients have ended
+-- after the last line all clients have ended
 all_parts : (n : ℕ) (p : Progress) → IsAt n 3 n p → all_ended p ≡ sample_clients_parts n 4
 all_parts n p at =
     let some : (p.counts.clients == 0) ≡ false = grind (arith, nat_tests, at.clients) in

@@ -153,7 +153,7 @@ takes_all p after before texts said says none reached = at_end says.behind says.
         (ap (λ n. before + n) (sym long ∙ ap length (sym same)), subst (λ (ts : List (List ℕ)). Reaches p (before + 1) ts after) (sym same) whole)
     at_end (t ∷ behind) all stops = elim stops [ ]
 
--- the line behind those that were taken has a cause of its own
+-- the line after those that were taken has a cause of its own
 pub stops_behind : (p q after : Progress) (before : ℕ) (texts : List (List ℕ)) (said : Said) (cause : Cause) → Says texts said → said.cause ≡ Some cause
     → ((front : List (List ℕ)) → SayInTurn front said.commands.items → Reaches p (before + 1) (take (length said.commands.items) front) q)
     → TakesAll p before texts after (Err (session_error (before + length said.commands.items + 1) (faults.Faulty cause)))
@@ -176,7 +176,7 @@ stops_behind p q after before texts said cause says is reached = at_end says.beh
         (meets_next p q after (before + 1) says.front t behind (record { line = before + length said.commands.items + 1; cause = cause }) whole
         (subst (λ (n : ℕ). error_of_text q (before + 1 + length says.front) t ≡ Some (record { line = n; cause = cause })) number (stops q (before + 1 + length says.front) t cause stop)))
 
--- a line in the midst of a block is refused
+-- a line inside a block is refused
 pub refused_in : (p q after : Progress) (before i : ℕ) (d : Option Command) (texts : List (List ℕ)) (said : Said) (e : SessionError) → Says texts said → i < length said.commands.items
     → ((front : List (List ℕ)) → SayInTurn front said.commands.items → Reaches p (before + 1) (take i front) q)
     → ((text : List ℕ) → SaysLine text (get_or said.commands.items i d) → Takes q (before + i + 1) text after (Err e))
@@ -204,7 +204,7 @@ refused_in p q after before i d texts said (errors.Input e) says lt reached refu
         says.all ∙ ap (λ (ts : List (List ℕ)). ts ++ says.behind) (sym (take-append-drop i front) ∙ ap (λ (ts : List (List ℕ)). take i front ++ ts) (drop_more front i [] (omega (arith, long))))
         ∙ append_assoc (take i front) (here ∷ drop (i + 1) front) says.behind
 
--- a line in the midst of a block was taken
+-- a line inside a block was taken
 pub taken_in : (p q after : Progress) (before i : ℕ) (d : Option Command) (commands : List (Option Command)) (front : List (List ℕ)) → SayInTurn front commands → i < length commands
     → Reaches p (before + 1) (take i front) q
     → ((text : List ℕ) → SaysLine text (get_or commands i d) → Takes q (before + i + 1) text after (Ok tt))
@@ -249,7 +249,7 @@ round_cut blocks round done whole =
     ap texts_in (sym (take-append-drop (done + length round) blocks)) ∙ texts_append (take (done + length round) blocks) (drop (done + length round) blocks)
     ∙ ap (λ (front : List (List ℕ)). front ++ behind) (round_to blocks round done whole) ∙ append_assoc (texts_in (take done blocks)) (texts_in round) behind
 
--- a block behind others is refused
+-- a block after others is refused
 pub block_refused : (p q after : Progress) (before : ℕ) (front texts behind : List (List ℕ)) (e : SessionError) → Reaches p (before + 1) front q
     → TakesAll q (before + length front) texts after (Err e) → TakesAll p before (front ++ (texts ++ behind)) after (Err e)
 block_refused p q after before front texts behind errors.NoMemory reached refused = tt

@@ -63,7 +63,7 @@ number_answer {E = E} bytes (Err e) parsed number =
     by_size : (n : ℕ) → ¬ (n < 2 ^ 64) → nat_le n 18446744073709551615 ≡ false
     by_size n not_small = elim (cases_lt n (2 ^ 64)) [ inl small ↦ absurd (not_small small) | inr large ↦ grind (arith, nat_tests) ]
 
--- the first place, in the other words
+-- the first place, in the other terms
 pub place_found : (p : ℕ → Bool) (xs : List ℕ) (r : Option ℕ) → r ≡ position p xs
     → MatchOption r (position_or_len p xs ≡ length xs) (λ place. (position_or_len p xs ≡ place) × (place < length xs))
 place_found p xs r is =
@@ -121,7 +121,7 @@ decoded_none text whole none = rw (whole, is_utf8-none (percent_decode text) non
 
 -- ---- tags
 
--- behind a double quote the text may be cut
+-- after a double quote the text may be cut
 pub lead_after_quote : (text : List ℕ) → IsUtf8 text → get_or text 0 0 ≡ 34 → 1 < length text → 128 ≤ get_or text 1 0 → 192 ≤ get_or text 1 0
 lead_after_quote text utf8 quote = lead_after_ascii text 0 utf8 (omega (arith, quote))
 

@@ -29,7 +29,7 @@ value_cause (Some EncodingType) value = if is_encoding value then None else Some
 value_cause (Some FetchOwner) value = if is_fetch_owner value then None else Some BadFetchOwner
 value_cause name value = None
 
--- the first cause of a parameter behind these names that is none of its value alone
+-- the first cause of a parameter after these names that is none of its value alone
 unfoldable pub name_cause : Version → List Name → Option Name → List ℕ → Option Cause
 name_cause version names None value = Some UnknownParameter
 name_cause version names (Some name) value =
@@ -38,7 +38,7 @@ name_cause version names (Some name) value =
     else if stands_in names name then Some RepeatedParameter
     else None
 
--- the first cause of a parameter behind these names: causes of values come last
+-- the first cause of a parameter after these names: causes of values come last
 unfoldable pub parameter_cause : Version → List Name → Option Name → List ℕ → Option Cause
 parameter_cause version names name value = option_or (name_cause version names name value) (value_cause name value)
 
@@ -66,7 +66,7 @@ pub record Asking : Type 0 where
   pub names : List Name
   pub cause : Option Cause
 
--- with one parameter more
+-- with one more parameter
 unfoldable pub asking_with : Asking → Parameter → Asking
 asking_with so_far p = record {
   version = so_far.version;

@@ -16,8 +16,8 @@ use Rattle.request_lines.specs.Queries.{most_keys}
 abbrev pub none_counted : Counts
 none_counted = record { clients = 0; requests = 0; puts = 0; entries = 0; last = 0 }
 
--- with one line more. A LIST or LISTV1 line counts with its `max_keys`, the most entries that its page can have, and a
--- NEXT line with that of its client's last LIST line, or 0 where there is none.
+-- with one more line. A LIST or LISTV1 line counts with its `max_keys`, the most entries that its page can have, and
+-- a NEXT line with that of its client's last LIST line, or 0 where there is none.
 abbrev pub counted : Counts → Command → Counts
 counted so_far says.Client = record so_far { clients = so_far.clients + 1; last = 0 }
 counted so_far (says.Put when name fields) = record so_far { requests = so_far.requests + 1; puts = so_far.puts + 1 }

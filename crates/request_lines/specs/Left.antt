@@ -10,7 +10,7 @@ abbrev pub size_left : Option (Bor (List ℕ)) → ℕ
 size_left None = 0
 size_left (Some bytes) = length bytes.now + 1
 
--- the lines that are left: None behind the last one
+-- the lines that are left: None after the last one
 abbrev pub texts_left : Option (Bor (List ℕ)) → List (List ℕ)
 texts_left None = []
 texts_left (Some bytes) = texts_of bytes.now
@@ -20,7 +20,7 @@ abbrev pub parts_left : ℕ → Option (Bor (List ℕ)) → List (List ℕ)
 parts_left at None = []
 parts_left at (Some text) = slice_split (λ b. b == at) text.now
 
--- the first of these parts, and what is left behind it
+-- the first of these parts, and what is left after it
 abbrev pub IsNextPart : ℕ → Option (Bor (List ℕ)) → Bor (List ℕ) × Option (Bor (List ℕ)) → Type 0
 IsNextPart at left next = parts_left at left ≡ next.0.now ∷ parts_left at next.1
 

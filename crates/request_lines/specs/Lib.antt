@@ -1,3 +1,4 @@
+-- The grammar of an input, the session that it gives or its refusal, and the generated session.
 pub mod Asking
 pub mod Causes
 pub mod CauseNames

@@ -16,7 +16,7 @@ asking so_far = record { version = so_far.version; values = so_far.values; names
 abbrev pub parameter : code.Parameter.Parameter → Parameter
 parameter p = record { name = p.name; value = p.value }
 
--- with one piece more
+-- with one more piece
 unfoldable pub piece_asked : Asking → List ℕ → Result Asking Cause
 piece_asked so_far piece =
     if length piece == 0 then Ok so_far

@@ -1,5 +1,5 @@
 -- Helper: the headline does not rest on this file.
--- What a function answers that reads.
+-- What a function that reads returns.
 use Rattle.std.specs.Prelude.{◌≡◌, Result, Ok, Err}
 use Rattle.request_lines.specs.declared.cause.Cause.{Cause}
 use Rattle.request_lines.specs.declared.line_error.LineError.{LineError}

@@ -38,7 +38,7 @@ no_progress = record { counts = none_counted; ended = []; current = []; names = 
 abbrev pub all_ended : Progress → List ClientPart
 all_ended p = if p.counts.clients == 0 then p.ended else p.ended ++ record { requests = p.current } ∷ []
 
--- with one line more. A line that begins a client ends the one before it.
+-- with one more line. A line that begins a client ends the one before it.
 abbrev pub ended_by : Bool → Progress → List ClientPart
 ended_by true p = all_ended p
 ended_by false p = p.ended
@@ -63,7 +63,7 @@ taken p number text = if length text == 0 then p else kept p number (reading_of 
 unfoldable pub error_of_text : Progress → ℕ → List ℕ → Option InputError
 error_of_text p number text = if length text == 0 then None else error_at number (cause_by_counts p.counts (reading_of text))
 
--- why a session is not read whose line of this number is not
+-- the error of a session whose line of this number is not read
 abbrev pub session_error : ℕ → LineError → SessionError
 session_error number (faults.Faulty cause) = errors.Input (record { line = number; cause = cause })
 session_error number faults.NoMemory = errors.NoMemory

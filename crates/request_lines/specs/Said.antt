@@ -1,5 +1,5 @@
 -- Helper: the headline does not rest on this file.
--- What the lines of a block of an input say, before they are held against the limits of a session.
+-- What the lines of a block of an input say, before they are checked against the limits of a session.
 use Rattle.std.specs.Prelude.{◌≡◌, ℕ, ◌<◌, ◌≤◌, ◌==◌, List, [], ◌∷◌, ◌++◌, length, Option, Some, None, Result, Ok, Err, slice_index_or, if◌then◌else◌}
 use Rattle.std.specs.Borrow.{Bor}
 use Rattle.std.specs.Option.{option_map}

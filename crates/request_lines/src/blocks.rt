@@ -8,7 +8,8 @@ use crate::read::line_feed;
 use key_names::NoMemory;
 use std::alloc::Global;
 
-/// How many bytes the lines of a block have at least, but for the last block.
+/// The fewest bytes of the lines of a block other than the last. An input of no more bytes starts no thread. A block
+/// is tested for UTF-8 as a whole; one that fails is read line by line, so that each line has its own cause.
 pub(crate) const BLOCK_BYTES: usize = 1 << 18;
 
 /// The blocks of these lines, in order.
@@ -25,7 +26,7 @@ pub(crate) fn blocks_of(alloc: Global, lines: &[u8]) -> Result<Vec<&[u8]>, NoMem
     Ok(blocks)
 }
 
-// The first block of these lines, and what is left behind it: None behind the last one.
+// The first block of these lines, and what is left after it: None after the last one.
 fn first_block(lines: &[u8]) -> (&[u8], Option<&[u8]>)
     ensures cut { texts_of lines.now ≡ texts_of result.0.now ++ texts_left result.1 }
     ensures shorter { size_left result.1 ≤ length lines.now }

@@ -1,3 +1,4 @@
+// The causes for which a line is refused.
 ghost use Rattle.std.specs.Prelude.{◌≡◌};
 ghost use Rattle.request_lines.specs.Causes as spec;
 
@@ -47,11 +48,11 @@ pub enum Cause {
     TooManyLines,
     /// The pages of the LIST, LISTV1 and NEXT lines so far can have more than 4,000,000 entries together.
     TooManyEntries,
-    /// The input of `check` has no line `----`: told of the line behind the last one, where no line has a cause.
+    /// The input of `check` has no line `----`: reported at the line after the last one, where no line has a cause.
     NoText,
 }
 
-/// Shown by its name, as the line on standard error and the documents have it.
+/// Shown by its name, as in the line on standard error and in the documents.
 impl fmt::Display for Cause {
     ghost use Rattle.std.specs.Prelude.{Some};
     ghost use Rattle.request_lines.specs.CauseNames.{cause_name};

@@ -68,7 +68,7 @@ pub(crate) fn command_of(alloc: Global, text: &[u8]) -> Result<Command, LineErro
     }
 }
 
-/// What a line says that is known to be UTF-8.
+/// What a line that is known to be UTF-8 says.
 pub(crate) fn command_of_text(alloc: Global, line: &str) -> Result<Command, LineError>
     ensures reading { Reads result (reading_of line.now) }
     ensures fine { IfOk result IsFineCommand }

@@ -1,4 +1,4 @@
-// Names as they are read: most that come again are not kept again, and behind the last line each distinct one is kept
+// Names as they are read: most that come again are not kept again, and after the last line each distinct one is kept
 // once.
 ghost use Rattle.std.specs.Prelude.{◌≡◌, ◌<◌, ◌≤◌, ◌++◌, ◌∷◌, [], length, map, All, IfOk, OnOk, OnErr, IsOkUnless, replicate, slice_index};
 ghost use Rattle.key_names.specs.Ranks.{most_names};
@@ -16,16 +16,18 @@ use std::marker::Model;
 
 /// The names of the lines so far.
 ///
-/// A name that is known at the one place of a table where its hash leads is not kept again; any other one is, and takes
-/// the place. All that are kept are sorted once, behind the last line, and equal names then stand together. So no choice
-/// of names makes the reading slow: at worst each line's name is kept.
+/// A name that is known at the one place of a table where its hash leads is not kept again; any other one is, and
+/// takes the place. All that are kept are sorted once, after the last line, and equal names then stand together. So
+/// no choice of names makes the reading slow: at worst each line's name is kept.
 #[derive(Debug, Drop)]
 pub(crate) struct Interner {
     // The names that are kept, in the order in which they came. A name's number is its place among them.
     names: Vec<Text>,
     // The number of each line's name.
     order: Vec<usize>,
-    // Where a name may have been kept.
+    // Where a name may have been kept. Each hash has one place, without a search: names chosen by the hash, whose
+    // seed is fixed, are only kept once for each line. A table that is searched would need a hash for which nobody
+    // can choose names.
     known: Known,
 }
 
@@ -52,7 +54,7 @@ impl Interner {
         }
     }
 
-    /// Makes room for so many more names that are kept, and for those of so many more lines, where it is to be had.
+    /// Makes room, if available, for so many more kept names and for the names of so many more lines.
     pub(crate) fn make_room(&mut self, names: usize, lines: usize)
         ensures { self.new ≡ self.old }
     {
@@ -71,8 +73,8 @@ impl Interner {
         self.names.get(number).map_or(0, |name| name.bytes().len())
     }
 
-    /// Adds the name of the next line, and answers the number that it is kept under. A hint for another name costs time
-    /// alone.
+    /// Adds the name of the next line, and returns the number that it is kept under. A hint for another name only
+    /// costs time.
     pub(crate) fn push(
         &mut self,
         alloc: Global,
@@ -89,7 +91,7 @@ impl Interner {
         Ok(number)
     }
 
-    /// Adds a name, and answers the number that it is kept under. The caller knows the number that an equal name may
+    /// Adds a name, and returns the number that it is kept under. The caller knows the number that an equal name may
     /// have; that name is compared.
     pub(crate) fn push_known(
         &mut self,
@@ -136,7 +138,7 @@ fn number_of(
     if let Some(number) = hint.number_of(names.as_slice(), name) {
         return Ok(number);
     }
-    // The table is asked again: the name may have been kept after the hint was made.
+    // The name is looked up again: it may have been kept after the hint was made.
     let hash = hint.hash();
     let number = known_or_next(alloc, names, name, known.number_of(hash))?;
     known.note(hash, number);
@@ -174,8 +176,8 @@ fn by_ranks(alloc: Global, names: &[Text]) -> Result<(Vec<Text>, Vec<usize>), No
     Ok((distinct, ranks))
 }
 
-// The names of so many entries are looked at before the first of them is kept. Each may lie anywhere in memory, and the
-// waits for all of them are one then.
+// This many names are looked at before the first of them is kept. Each may lie anywhere in memory, and the waits for
+// them then overlap.
 const AHEAD: usize = 16;
 
 // The distinct names of the entries, in their order, and for each entry the place of its name among them.

@@ -6,8 +6,8 @@ use std::hash::{FoldHasher, Hasher};
 // How many places the table has.
 const PLACES: usize = 65_536;
 
-/// At the place where a name's hash leads stands what was kept last with this place. It is a hint: that name may be
-/// another one.
+/// At the place where a name's hash leads stands what was kept last with this place. It is a hint: that name may be a
+/// different one.
 #[derive(Debug, Drop)]
 pub(crate) struct Known {
     // No place before the first name.

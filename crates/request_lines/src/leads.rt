@@ -1,4 +1,4 @@
-// The sort of the names, which is fast where many names begin alike: the bytes behind what all have in common are
+// The sort of the names, which is fast where many names begin alike: the bytes after what all have in common are
 // compared first, as two numbers.
 ghost use Rattle.std.specs.Prelude.{◌≡◌, length, map, IfOk};
 ghost use Rattle.std.specs.List.{range_with_len};
@@ -8,10 +8,11 @@ use key_names::{NoMemory, Text};
 use std::alloc::Global;
 use std::cmp::Ordering;
 
-// How many bytes are compared as one number.
+// How many bytes are compared as one number. Of names with a date and then a number, some ten are alike in 16 bytes,
+// so two numbers, 32 bytes, are compared.
 const LEAD_BYTES: usize = 16;
 
-/// The number of a name, and its bytes behind what all names begin with, as two numbers.
+/// The number of a name, and its bytes after what all names begin with, as two numbers.
 #[derive(Debug, Drop)]
 pub(crate) struct Numbered {
     pub(crate) leads: (u128, u128),
@@ -72,14 +73,14 @@ fn common_front<'a>(bytes: &'a [u8], name: &[u8]) -> &'a [u8] {
     front
 }
 
-// The bytes of a name from this place on as two numbers, one behind the other, with zeros behind its end. Where names
+// The bytes of a name from this place on as two numbers, one after the other, with zeros after its end. Where names
 // begin alike up to the place and the numbers differ, they are in the order of the numbers.
 fn leads_of(name: &[u8], begin: usize) -> (u128, u128) {
     let rest = behind(name, begin);
     (lead(rest), lead(behind(rest, LEAD_BYTES)))
 }
 
-// The bytes behind so many of them.
+// The bytes after so many of them.
 fn behind(bytes: &[u8], count: usize) -> &[u8] {
     match bytes.split_at_checked(count) {
         Some((_, rest)) => rest,

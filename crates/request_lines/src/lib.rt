@@ -1,7 +1,7 @@
-//! A session's text, read line by line: which clients there are, what each of them asks, and the first fault.
-//! The layers above use `read_session` and `read_session_on_threads`, what `specs/SessionLaws.antt` says of every session, and the grammar of
-//! `specs/Input.antt`; and, for a session with a written text behind it, `read_check_input` and `line_len`. `sample_session`
-//! makes the generated session.
+//! A session's text, read line by line: which clients there are, what each of them asks, and the first fault. The
+//! layers above use `read_session` and `read_session_on_threads`, what `specs/SessionLaws.antt` says of every
+//! session, and the grammar of `specs/Input.antt`; and, for a session followed by a written text, `read_check_input`
+//! and `line_len`. `sample_session` makes the generated session.
 #![tactic(auto)]
 
 mod blocks;

@@ -1,3 +1,4 @@
+// The errors of reading a line.
 ghost use Rattle.std.specs.Prelude.{◌≡◌};
 ghost use Rattle.request_lines.specs.declared.line_error.LineError.TheVariants.{Faulty as IsFaulty, NoMemory as OutOfMemory};
 

@@ -8,12 +8,12 @@ use crate::interner::Interner;
 use crate::known::hash_of;
 use key_names::Text;
 
-// The names of so many lines are looked for before the first of them is kept. Each of them, and its place in the table,
-// may lie anywhere in memory, and the waits for all of them are one then.
+// The names of this many lines are looked for before the first of them is kept. Each of them, and its place in the
+// table, may lie anywhere in memory, and the waits for them then overlap.
 const AHEAD: usize = 16;
 
 /// The hash of a line's name, the number that it may have been kept under, and how many bytes the name of this number
-/// has. Contracts rely on none of it: a wrong hint costs time alone.
+/// has. Contracts rely on none of it: a wrong hint only costs time.
 #[derive(Clone, Copy, Debug)]
 pub(crate) struct NameHint {
     hash: u64,

@@ -42,8 +42,8 @@ impl Names {
         }
     }
 
-    /// The names of a vector, one for each line, whose memory is used on. `TooMany` comes where they are more than
-    /// `MAX_NAMES`, and no other refusal.
+    /// The names of a vector, one for each line, whose memory is reused. `TooMany`, where they are more than
+    /// `MAX_NAMES`, is the only error.
     pub fn from_vec(names: Vec<Text>) -> Result<Names, NamesError>
         ensures names { IfOk result (λ held. held ≡ names.items) }
         ensures few { IfOk result (λ _. length names.items ≤ most_names) }
@@ -56,7 +56,7 @@ impl Names {
     }
 
     /// A name for each line. Where they came as a vector it is that one, and no memory is taken; where a session was
-    /// read each line gets a copy of its own.
+    /// read, each line gets a copy of its own.
     pub fn into_vec(self, alloc: Global) -> Result<Vec<Text>, NoMemory>
         ensures { IfOk result (λ names. names.items ≡ self) }
     {
@@ -100,7 +100,7 @@ impl Names {
         }
     }
 
-    /// The names, which do not stand here any more.
+    /// Takes the names out: none is left here.
     pub(crate) fn take(&mut self) -> Names
         ensures taken { result ≡ self.old }
         ensures none { self.new ≡ [] }

@@ -5,8 +5,8 @@ ghost use Rattle.request_lines.specs.Left.{parts_left, size_left, IsNextPart};
 
 use memchr::memchr;
 
-/// The first part of a text that is cut at each of this ASCII character, and what is left behind it: None
-/// behind the last part.
+/// The first part of a text that is cut at each of this ASCII character, and what is left after it: None after the
+/// last part.
 pub(crate) fn first_part(text: &str, at: char) -> (&str, Option<&str>)
     requires { at < 128 }
     ensures cut { slice_split (λ b. b == at) text.now ≡ result.0.now ∷ parts_left at result.1 }
@@ -22,7 +22,7 @@ pub(crate) fn first_part(text: &str, at: char) -> (&str, Option<&str>)
     }
 }
 
-/// The next part, and what is left behind it.
+/// The next part, and what is left after it.
 pub(crate) fn next_part(left: Option<&str>, at: char) -> Option<(&str, Option<&str>)>
     requires { at < 128 }
     ensures { MatchOption result (parts_left at left.entry ≡ []) (IsNextPart at left.entry) }

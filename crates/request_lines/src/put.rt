@@ -15,7 +15,7 @@ use crate::verb::PutWhen;
 use bucket_terms::Record;
 use std::alloc::Global;
 
-/// The fields of the line behind its verb.
+/// The fields of the line after its verb.
 #[derive(Clone, Copy)]
 pub(crate) struct PutFields<'a> {
     pub(crate) key: &'a str,

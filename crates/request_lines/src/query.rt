@@ -139,7 +139,7 @@ fn cut(piece: &str) -> (&str, &str)
     }
 }
 
-// The first cause of a parameter behind these names that is none of its value alone.
+// The first cause of a parameter after these names that is none of its value alone.
 #[tactic(auto, unfolding(crate::specs::Asking::name_cause))]
 fn name_cause(version: Version, names: &[Name], name: Option<Name>, value: &str) -> Option<Cause>
     ensures { result ≡ kept.name_cause version names.now name value.now }

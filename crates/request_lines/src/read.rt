@@ -1,3 +1,4 @@
+// The session of a text, read line by line.
 ghost use Rattle.std.specs.Prelude.{◌≡◌, ◌<◌, ◌≤◌, ◌==◌, ◌∷◌, length, IfOk};
 ghost use Rattle.std.specs.List.{position};
 ghost use Rattle.request_lines.specs.Input.{most_input_bytes, IsSessionOf};
@@ -44,7 +45,7 @@ pub fn read_session(alloc: Global, bytes: &[u8]) -> Result<Session, SessionError
     reader.finish(alloc)
 }
 
-/// The first line without its end, and what stands behind it: None behind the last line.
+/// The first line without its end, and what follows it: None after the last line.
 pub(crate) fn first_line(bytes: &[u8]) -> (&[u8], Option<&[u8]>)
     ensures cut { texts_of bytes.now ≡ result.0.now ∷ texts_left result.1 }
     ensures shorter { size_left result.1 ≤ length bytes.now }

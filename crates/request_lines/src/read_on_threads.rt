@@ -1,4 +1,4 @@
-// A session, what whose lines say is read by several threads at once.
+// A session whose lines are read by several threads at once.
 ghost use Rattle.std.specs.Prelude.{◌≤◌, length, IfOk};
 ghost use Rattle.request_lines.specs.Input.{most_input_bytes, IsSessionOf};
 ghost use Rattle.request_lines.specs.Refusal.{IsRefused};
@@ -13,9 +13,9 @@ use std::alloc::Global;
 use std::thread;
 use std::thread::Threads;
 
-/// As `read_session`. What the lines of several blocks say is read at once, on as many threads as the machine runs, and
-/// is then held against the limits and kept in order, while the next blocks are read. Where a thread cannot be started,
-/// the caller reads its block; an input of no more bytes than a block has starts no thread.
+/// As `read_session`. What the lines of several blocks say is read at once, on as many threads as the machine runs,
+/// and is then checked against the limits and kept in order, while the next blocks are read. Where a thread cannot be
+/// started, the caller reads its block; an input of no more bytes than a block has starts no thread.
 pub fn read_session_on_threads<Rt: Threads + Sync>(
     rt: &Rt,
     alloc: Global,

@@ -6,8 +6,8 @@ use key_names::NoMemory;
 use std::alloc::Global;
 use std::marker::Model;
 
-/// The requests of a client, in the order of their lines. Contracts see the list of them. It keeps beside each request
-/// the rank of its name among the session's names, so that no one has to search for it: see `rank`.
+/// The requests of a client, in the order of their lines. Contracts see the list of them. Next to each request it
+/// keeps the rank of its name among the session's names, so that no one has to search for it: see `rank`.
 #[derive(Debug, Drop)]
 pub struct Requests {
     asked: Vec<Asked>,
@@ -35,7 +35,7 @@ impl Requests {
         }
     }
 
-    /// No requests, and room for so many, where it is to be had.
+    /// No requests, and room for so many, if available.
     pub(crate) fn with_room(alloc: Global, count: usize) -> Requests
         ensures { result ≡ [] }
     {
@@ -46,7 +46,7 @@ impl Requests {
         requests
     }
 
-    /// The requests of a vector, whose memory is used on. A name of theirs is looked for at rank 0 first.
+    /// The requests of a vector, whose memory is reused. Their names are looked for at rank 0 first.
     pub fn from_vec(asked: Vec<Asked>) -> Requests
         ensures { result ≡ asked.items }
     {
@@ -74,8 +74,8 @@ impl Requests {
         self.asked.as_slice()
     }
 
-    /// Where to look for the name of the request at this place: its rank in a directory of the session's names and of
-    /// no others. Another directory may have another name there, so that a caller has to compare.
+    /// Where to look for the name of the request at this place: its rank in a directory of exactly the session's
+    /// names. Another directory may have another name there, so that a caller has to compare.
     pub fn rank(&self, place: usize) -> usize {
         self.ranks.get(place).copied().unwrap_or(0)
     }

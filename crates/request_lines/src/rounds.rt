@@ -13,7 +13,7 @@ use std::alloc::Global;
 use std::thread::{Threads, join_mut};
 use std::{mem, thread};
 
-/// Takes the lines of all blocks, at most so many of which are read at once, and answers how many lines there are.
+/// Takes the lines of all blocks, of which at most so many are read at once, and returns how many lines there are.
 pub(crate) fn take_rounds<Rt: Threads + Sync>(
     rt: &Rt,
     alloc: Global,
@@ -55,8 +55,8 @@ fn expected_lines(said: &[Said], blocks: usize) -> usize {
     lines.saturating_mul(rounds)
 }
 
-// Takes the lines of a round, which were read into the first lists, and reads the next round into other lists meanwhile,
-// on other threads.
+// Takes the lines of a round, which were read into the first lists, and meanwhile reads the next round into other
+// lists, on other threads.
 fn take_beside<Rt: Threads + Sync>(
     rt: &Rt,
     alloc: Global,
@@ -124,7 +124,8 @@ fn read_all<Rt: Threads + Sync>(rt: &Rt, alloc: Global, blocks: &[&[u8]], said: 
     read_each(rt, alloc, blocks, used);
 }
 
-// Puts what the lines of each block say into the list at its place, each on a thread of its own, where one can be started.
+// Puts what the lines of each block say into the list at its place, each on a thread of its own, where one can be
+// started.
 fn read_each<Rt: Threads + Sync>(rt: &Rt, alloc: Global, blocks: &[&[u8]], said: &mut [Said])
     requires one_each { length said.old ≡ length blocks.now }
     ensures read { AreRead blocks.now said.new }

@@ -13,7 +13,7 @@ use simdutf8::basic::from_utf8;
 use std::alloc::Global;
 use std::mem;
 
-// Room is made for as many lines as there are if each has so many bytes: few lines are shorter.
+// Room is made for as many lines as there are if each has this many bytes: few lines are shorter.
 const LINE_BYTES: usize = 16;
 
 /// What the lines of a block say, in a list that serves for the next block too.
@@ -21,7 +21,7 @@ const LINE_BYTES: usize = 16;
 pub(crate) struct Said {
     /// What each line says, in order, up to the first that has a cause of its own; None of an empty one.
     pub(crate) commands: Vec<Option<Command>>,
-    /// The cause of the line behind these, where there is one.
+    /// The cause of the line after these, where there is one.
     pub(crate) cause: Option<Cause>,
     /// Whether memory sufficed to read the block.
     pub(crate) memory: Result<(), NoMemory>,
@@ -37,7 +37,7 @@ impl Said {
     }
 
     /// Puts what the lines of the block say in the place of what stood here. The list is filled on the stack of its
-    /// thread: those of other threads stand beside it, and where two processors write into one line of their caches by
+    /// thread: those of other threads are next to it in memory, and where two processors write into one cache line by
     /// turns, each waits for the other at every write.
     pub(crate) fn read(&mut self, alloc: Global, block: &[u8])
         ensures { IsRead (texts_of block.now) self.new }
@@ -47,7 +47,7 @@ impl Said {
         *self = said;
     }
 
-    // The same where the list stands.
+    // The same, in place.
     fn read_here(&mut self, alloc: Global, block: &[u8])
         ensures { IsRead (texts_of block.now) self.new }
     {
@@ -107,9 +107,9 @@ impl Said {
     }
 }
 
-// Makes room for the texts that the block's lines may keep apart from the list: prefixes, and names of more bytes than a
-// text has in itself. An allocator that has given back no piece of this size before gives the first one back to the
-// operating system, and keeps the second.
+// Makes room for the texts that the block's lines may keep apart from the list: prefixes, and names of more bytes
+// than a text has in itself. It does so twice: glibc gives the first block of a size back to the operating system,
+// and keeps the second in the thread's memory.
 fn make_text_room(alloc: Global, block: &[u8]) {
     let bytes = block.len().saturating_mul(2);
     make_room(alloc, bytes);

@@ -36,7 +36,7 @@ impl Session {
     ghost use Rattle.std.specs.Prelude.{[], All};
     ghost use Rattle.key_names.specs.Names.{IsFine, HoldsEachOnce};
 
-    /// Takes the names out, and answers the directory that has them.
+    /// Takes the names out, and returns the directory that has them.
     ///
     /// ```
     /// let mut session = read_session(alloc, b"CLIENT\nPUT a 1 e1 10\nHEAD a\n")?;

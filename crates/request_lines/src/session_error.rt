@@ -1,3 +1,4 @@
+// The errors of reading a session.
 ghost use Rattle.std.specs.Prelude.{◌≡◌};
 ghost use Rattle.request_lines.specs.declared.session_error.SessionError.TheVariants.{NoMemory};
 

@@ -1,4 +1,4 @@
-// What the lines of blocks say is held against the limits, and kept.
+// What the lines of blocks say is checked against the limits, and kept.
 ghost use Rattle.std.specs.Prelude.{◌≡◌, ℕ, ◌+◌, ◌<◌, ◌^◌, List, length, OnOk};
 ghost use Rattle.request_lines.specs.Counting.{IsWithin};
 ghost use Rattle.request_lines.specs.Reading.{progress, TakesAll};
@@ -12,7 +12,7 @@ use crate::said::Said;
 use std::alloc::Global;
 
 impl Reader {
-    /// Takes the lines of a block, which have so many before them, and answers how many there are with them.
+    /// Takes the lines of a block, which have so many before them, and returns how many there are with them.
     fn take_all(&mut self, alloc: Global, before: u32, said: &mut Said) -> Result<u32, SessionError>
         requires within { IsWithin self.old.counts }
         requires says { (texts : List (List ℕ)) × IsRead texts said.old × (before + length texts < 2 ^ 32) }
@@ -33,7 +33,7 @@ impl Reader {
         }
     }
 
-    /// Takes the lines of blocks, which have so many before them, and answers how many there are with them. What they
+    /// Takes the lines of blocks, which have so many before them, and returns how many there are with them. What they
     /// say is taken out of the first lists.
     pub(crate) fn take_each(
         &mut self,

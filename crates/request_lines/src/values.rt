@@ -70,7 +70,7 @@ impl Values {
         }
     }
 
-    /// Sets what this parameter says. Answers the cause of a value that the parameter does not take.
+    /// Sets what this parameter says. Returns the cause of a value that the parameter does not take.
     #[tactic(auto, unfolding(crate::specs::Asking::with_parameter, crate::specs::Asking::value_cause))]
     pub(crate) fn set(&mut self, name: Option<Name>, value: Text) -> Option<Cause>
         ensures values { self.new ≡ kept.with_parameter self.old name value }

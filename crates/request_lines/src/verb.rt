@@ -1,3 +1,4 @@
+// The verbs of lines.
 ghost use Rattle.std.specs.Prelude.{◌≡◌};
 ghost use Rattle.request_lines.specs.Input.{verb_of};
 

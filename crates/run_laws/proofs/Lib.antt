@@ -2,7 +2,7 @@
 pub mod OneRun
 -- What an input, its session and its directory determine.
 pub mod Determined
--- Small sessions: the runs that are legal, and those beside them that are not.
+-- Small sessions: runs that are legal, and similar runs that are not.
 pub mod RunRows
 -- Common prefixes, `start-after` and truncated pages.
 pub mod PageLaws

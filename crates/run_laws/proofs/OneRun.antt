@@ -56,12 +56,12 @@ count_most : (test : Update → Bool) (us : List Update) → count_by test us �
 count_most test [] = omega arith
 count_most test (u ∷ us) = omega (arith, sum_by-cons (λ (v : Update). cond (test v) 1 0) u us, one_most (test u), count_most test us)
 
--- the front behind an answer with this place
+-- the front after an answer with this place
 abbrev pub front_behind : Option ℕ → ℕ → ℕ
 front_behind (Some q) p = q
 front_behind None p = p
 
--- what came of a request behind the first `p` updates is what comes of it alone
+-- the outcome of a request after the first `p` updates is its outcome alone
 record Comes (s : Setting) (p : ℕ) (last : Option Reply) (line : ℕ) (request : Request) (o : Option ℕ) (reply : Reply) : Type 0 where
   start : Option (Option TokenPoint)
   resolved : IsResolved request start
@@ -89,14 +89,14 @@ module _ (s : Setting) (rising : Rises s.dir) (mine : (i : ℕ) (u : Update) →
   size : (p : ℕ) → p ≤ length s.updates → length (take p s.updates) ≡ p
   size p le = length-take-le p s.updates le
 
-  -- where no update was made, the place is the front
+  -- if no update was made, the place is the front
   stay_same : (p q : ℕ) → Stays s p q → take q s.updates ≡ take p s.updates
   stay_same p q stays = sym (upto q) ∙ stays.same ∙ upto p
 
   stay_place : (p q : ℕ) → p ≤ length s.updates → q ≤ length s.updates → Stays s p q → q ≡ p
   stay_place p q low high stays = sym (size q high) ∙ ap (length {A = Update}) (stay_same p q stays) ∙ size p low
 
-  -- where one was made, it is the next
+  -- if one was made, it is the next
   add_before : (p q : ℕ) (a : Answered) → p ≤ length s.updates → (adds : Adds s p q a) → adds.before ≡ p
   add_before p q a low adds =
       let within : adds.before < length s.updates = slice_get_within s.updates adds.before adds.update adds.here in

@@ -1,4 +1,4 @@
--- Small sessions: the runs that are legal, and those beside them that are not.
+-- Small sessions: runs that are legal, and similar runs that are not.
 use Rattle.std.proofs.Common.{◌≡◌, ℕ, zero, suc, ◌+◌, ◌<◌, ◌≤◌, true, false, List, [], ◌∷◌, length, codes, get_or, refl, sym, ap, ◌∙◌, subst, arith, inl, inr, Option, Some, None, All, Any}
 use Rattle.std.specs.List.{slice_get}
 use Rattle.std.specs.Option.{IfSome}
@@ -146,7 +146,7 @@ stale_page legal =
     let right = (legal.answered 0 (omega arith)).1.0.right in
     not_empty right.0 right.1.0 right.1.1.1
 
--- ---- beside another client's updates
+-- ---- next to another client's updates
 
 abbrev changes : List Update
 changes = put_a ∷ update 0 3 0 Remove ∷ update 0 4 1 (PutVal 8) ∷ []
@@ -174,7 +174,7 @@ page_of_two_moments legal =
     by_point None of is = let two : 2 ≡ 1 = ap (λ (p : Page). length p.entries) is ∙ one_entry changes refl in omega (arith, two)
     by_point (Some point) of is = no_token (record { point = point; bound = of.0 }) [] refl of.1.1
 
--- `a` is there behind the first update
+-- `a` is there after the first update
 there_at_one : (updates : List Update) → map_has 0 (after (put_a ∷ updates) 1) ≡ true
 unfolding after
 there_at_one updates = refl

@@ -1,4 +1,4 @@
--- A client that keeps to names which no other client changes is answered as if it were alone.
+-- A client that keeps to names that no other client changes is answered as if it were alone.
 use Rattle.std.proofs.Common.{◌≡◌, ℕ, zero, suc, ◌+◌, ◌-◌, ◌<◌, ◌⊎◌, Bool, true, false, if◌then◌else◌, List, [], ◌∷◌, ◌++◌, length, map, take, filter, eqb, refl, sym, ap, ◌∙◌, subst, arith, inl, inr, Option, Some, None, All, Any}
 use Rattle.std.specs.Bool.{IsTrue}
 use Rattle.std.specs.List.{slice_get, dedup}
@@ -61,7 +61,7 @@ page-part dir own query point m keeps =
 
 -- ---- the last listing keeps to the keys
 
--- the query of the last listing's reply names just such keys
+-- the query of the last listing's reply names only such keys
 abbrev LastKeeps : List (List ℕ) → (ℕ → Bool) → Option Reply → Type 0
 LastKeeps dir own (Some (Listed query page)) = KeepsTo dir own (ListRequest query)
 LastKeeps dir own last = Unit {0}
@@ -81,7 +81,7 @@ next-keeps dir own last next keeps e = cc
 
 -- ---- the keys of updates
 
--- a request that keeps to the keys changes such a key, and one that leaves them alone another one
+-- a request that keeps to the keys changes one of them, and one that leaves them alone changes another key
 kept_change : (dir : List (List ℕ)) (own : ℕ → Bool) (u : Update) (request : Request) → Rises dir → KeepsTo dir own request → IsChangeOf dir u request → own u.key ≡ true
 kept_change dir own u (Put name val) rising keeps change = subst (λ (key : ℕ). own key ≡ true) (rank_of-is dir name u.key rising change.0) keeps
 kept_change dir own u (PutNew name val) rising keeps change = subst (λ (key : ℕ). own key ≡ true) (rank_of-is dir name u.key rising change.0) keeps
@@ -108,7 +108,7 @@ line_of P dir u at lines replies all made =
 
 module _ (dir : List (List ℕ)) (own : ℕ → Bool) (parts : List (List RequestLine)) (slots : ℕ → ℕ) (run : Run) (c : ℕ)
     (rising : Rises dir) (untouched : IsUntouched dir own parts c) (legal : IsLegal dir parts slots run) where
-  -- a key that an update has is one of these just where the update is the client's
+  -- a key that an update has is one of these exactly if the update is the client's
   same_test : (i : ℕ) (u : Update) → slice_get run.updates i ≡ Some u → own u.key ≡ eqb u.client c
   same_test i u here = by_test (eqb u.client c) refl
     where
@@ -134,7 +134,7 @@ module _ (dir : List (List ℕ)) (own : ℕ → Bool) (parts : List (List Reques
 
 -- ---- one answer
 
--- what came of a request behind the client's updates up to the place `p` is what comes of it alone
+-- the outcome of a request after the client's updates up to the place `p` is its outcome alone
 record Comes (s : Setting) (own : ℕ → Bool) (p : ℕ) (last : Option Reply) (line : ℕ) (request : Request) (o : Option ℕ) (reply : Reply) : Type 0 where
   start : Option (Option TokenPoint)
   resolved : IsResolved request start

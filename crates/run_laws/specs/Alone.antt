@@ -1,5 +1,5 @@
 -- What a client alone is answered, one request after the other, also to a token and to NEXT: each reply with its place,
--- and the updates that stand behind it.
+-- and the updates that stand after it.
 use Rattle.std.specs.Prelude.{◌≡◌, ℕ, ◌+◌, false, if◌then◌else◌, List, [], ◌∷◌, ◌++◌, length, Option, Some, None}
 use Rattle.key_map.specs.declared.update.Update.{Update}
 use Rattle.key_map.specs.declared.update.Change.{Change}
@@ -18,14 +18,14 @@ use Rattle.bucket_terms.specs.RunParts.{head_answer}
 use Rattle.sample_laws.specs.Alone.{rank_of}
 use Rattle.sample_laws.specs.Finds.{map_of}
 
--- where the listing of a request begins: a LIST at the point of its token, or nowhere where that is the token of no
--- point
+-- where the listing of a request begins: a LIST at the point of its token, or nowhere if the text is not the token of
+-- any point
 abbrev pub IsResolved : Request → Option (Option TokenPoint) → Type 0
 IsResolved (ListRequest query) (Some point) = IsPointOf query point
 IsResolved (ListRequest query) None = (point : Option TokenPoint) → ¬ (IsPointOf query point)
 IsResolved request start = start ≡ None
 
--- what comes of a request: its place, where it has one, its reply, and the updates behind it
+-- the outcome of a request: its place, if it has one, its reply, and the updates after it
 pub record Outcome : Type 0 where
   pub at : Option ℕ
   pub reply : Reply
@@ -52,7 +52,7 @@ abbrev pub next_on : List (List ℕ) → List Update → Option Resumed → Outc
 next_on dir us (Some next) = looks us (Listed next.query (page_of dir next.query (Some next.point) (map_of us)))
 next_on dir us None = is_refused us
 
--- what comes of a request of this client and line, behind these updates and this reply of the last listing
+-- the outcome of a request of this client and line, after these updates and this reply of the last listing
 abbrev pub outcome_on : List (List ℕ) → ℕ → List Update → Option Reply → ℕ → Request → Option (Option TokenPoint) → Outcome
 outcome_on dir client us last line (Put name val) start =
     makes client line us (rank_of dir name) (PutVal val) (PutReply (map_has (rank_of dir name) (map_of us)))
@@ -68,12 +68,12 @@ outcome_on dir client us last line Next start = next_on dir us (next_of dir last
 abbrev pub placed_as : ℕ → ℕ → Outcome → Placed
 placed_as client line o = record { client = client; line = line; at = o.at; reply = o.reply }
 
--- the reply of the last listing behind this one
+-- the reply of the last listing after this one
 abbrev pub later_listing : Request → Reply → Option Reply → Option Reply
 later_listing request reply last = if is_listing request then Some reply else last
 
--- the lines are answered so in order, behind these updates and this reply of the last listing, and `end` are the
--- updates behind all of them
+-- the lines are answered so in order, after these updates and this reply of the last listing, and `end` are the
+-- updates after all of them
 abbrev pub AreAlone : List (List ℕ) → ℕ → List Update → Option Reply → List RequestLine → List Placed → List Update → Type 0
 AreAlone dir client us last [] [] end = end ≡ us
 AreAlone dir client us last (l ∷ lines) (r ∷ replies) end =

@@ -6,21 +6,21 @@ use Rattle.request_lines.specs.declared.session.Session.{Session}
 use Rattle.request_lines.specs.declared.session_error.InputError.{InputError}
 use Rattle.request_lines.specs.Input.{IsSessionOf, refusal_of}
 
--- a source that tells its bytes gave all that were left, and no others, or it gave the first of them
+-- a source that reports its bytes gave all that were left, and no others, or it gave the first of them
 abbrev pub OneInputLaw : Type 0
 OneInputLaw = (before input : List ℕ) (after : Option (List ℕ)) → IsReadToEnd (Some before) after input → (input ≡ before) × (after ≡ Some [])
 
 abbrev pub OneReadingLaw : Type 0
 OneReadingLaw = (before now x y : List ℕ) → IsRead (Some before) (Some now) x → IsRead (Some before) (Some now) y → x ≡ y
 
--- a sink that tells its bytes took one text, and goes on telling them
+-- a sink that reports its bytes took one text, and keeps reporting them
 abbrev pub OneTextLaw : Type 0
 OneTextLaw = (before now x y : List ℕ) → IsTaken (Some before) (Some now) x → IsTaken (Some before) (Some now) y → x ≡ y
 
 abbrev pub TellsOnLaw : Type 0
 TellsOnLaw = (before x : List ℕ) → ¬ (IsTaken (Some before) None x)
 
--- an input has one session at most, and none where it is refused
+-- an input has one session at most, and none if it is refused
 abbrev pub OneSessionLaw : Type 0
 OneSessionLaw = (input : List ℕ) (s t : Session) → IsSessionOf input s → IsSessionOf input t → s ≡ t
 

@@ -1,3 +1,4 @@
+-- The laws on runs, inputs and directories.
 pub mod Alone
 pub mod OneRun
 pub mod Determined

@@ -1,4 +1,4 @@
--- What common prefixes, `start-after` and a truncated page are, each said another way than its definition.
+-- What common prefixes, `start-after` and a truncated page are, each stated in another way than its definition.
 use Rattle.std.specs.Prelude.{◌≡◌, ◌≢◌, ℕ, ◌+◌, ◌<◌, Bool, true, false, List, [], length, drop, Option, Some, None}
 use Rattle.key_names.specs.Names.{Rises, begins_with}
 use Rattle.key_map.specs.declared.pair.Pair.{Pair}
@@ -8,11 +8,11 @@ use Rattle.bucket_terms.specs.declared.token_point.TokenPoint.{TokenPoint}
 use Rattle.bucket_terms.specs.declared.token_point.TokenPoint.TheVariants.{Key as AtKey}
 use Rattle.bucket_terms.specs.Listing.{group_len, entries_of, page_of, page_point}
 
--- whether the delimiter stands so many bytes behind the prefix's length
+-- whether the delimiter stands this many bytes after the prefix's length
 abbrev pub delimiter_at : ListQuery → List ℕ → ℕ → Bool
 delimiter_at query name k = begins_with (drop k (drop (length query.prefix) name)) query.delimiter
 
--- the first delimiter behind the prefix's length ends there
+-- the first delimiter after the prefix's length ends there
 pub record EndsWithFirst (query : ListQuery) (name : List ℕ) (len : ℕ) : Type 0 where
   pub given : 0 < length query.delimiter
   pub between : ℕ
@@ -20,8 +20,8 @@ pub record EndsWithFirst (query : ListQuery) (name : List ℕ) (len : ℕ) : Typ
   pub there : delimiter_at query name between ≡ true
   pub first : (k : ℕ) → k < between → delimiter_at query name k ≡ false
 
--- a name's common prefix ends with the first delimiter at or behind the prefix's length; a name without one has none
--- there
+-- a name's common prefix ends with the first delimiter at or after the prefix's length; a name without a delimiter
+-- there has none
 abbrev pub GroupLaw : Type 0
 GroupLaw = (query : ListQuery) (name : List ℕ) (len : ℕ) → group_len query name ≡ Some len → EndsWithFirst query name len
 
@@ -42,7 +42,7 @@ NoStartAfterLaw =
     (dir : List (List ℕ)) (query : ListQuery) (point : TokenPoint) (other : List ℕ) (m : List Pair)
     → entries_of dir query (Some point) m ≡ entries_of dir (record query { start_after = other }) (Some point) m
 
--- behind a truncated page there is an entry
+-- after a truncated page there is an entry
 abbrev pub TruncatedLaw : Type 0
 TruncatedLaw =
     (dir : List (List ℕ)) (query : ListQuery) (point : Option TokenPoint) (m : List Pair) → Rises dir → IsMap m

@@ -1,5 +1,5 @@
--- The clients of a session change their numbers: two of them change places, for one. Nothing else of a run depends on
--- the numbers.
+-- The clients of a session change their numbers: for example, two of them change places. Nothing else of a run depends
+-- on the numbers.
 use Rattle.std.specs.Prelude.{◌≡◌, ℕ, ◌<◌, List, length, map}
 use Rattle.key_map.specs.declared.update.Update.{Update}
 use Rattle.bucket_terms.specs.declared.reply.Placed.{Placed}
@@ -12,7 +12,7 @@ renamed_update new u = record u { client = new u.client }
 abbrev pub renamed_reply : (ℕ → ℕ) → Placed → Placed
 renamed_reply new p = record p { client = new p.client }
 
--- the clients have changed their numbers so that doing it once more gives each its own back
+-- the clients have changed their numbers in such a way that the same change once more restores each number
 pub record AreRenamed (new : ℕ → ℕ) (parts parts' : List (List RequestLine)) (slots slots' : ℕ → ℕ) : Type 0 where
   pub back : (c : ℕ) → new (new c) ≡ c
   pub clients : length parts' ≡ length parts

@@ -1,4 +1,4 @@
--- Small sessions of one, two and three clients: runs that are legal, and runs beside them that are not.
+-- Small sessions of one, two and three clients: runs that are legal, and similar runs that are not.
 use Rattle.std.specs.Prelude.{◌≡◌, ℕ, List, [], ◌∷◌, codes, true, false, Some, None}
 use Rattle.key_map.specs.declared.update.Update.{Update}
 use Rattle.key_map.specs.declared.update.Change.{Change}
@@ -50,7 +50,7 @@ list_v1 = ListV1 v1_query
 abbrev pub v1_reply : List PageEntry → Reply
 v1_reply entries = ListedV1 v1_query (record { entries = entries; truncated = false })
 
--- each client has so many node slots
+-- each client has this many node slots
 abbrev pub Legal : ℕ → List (List RequestLine) → Run → Type 0
 Legal slots parts r = IsLegal two_names parts (λ client. slots) r
 
@@ -70,7 +70,7 @@ put_a = update 0 2 0 (PutVal 7)
 abbrev pub looked : Placed → Placed → Run
 looked first second = run (put_a ∷ []) ((reply_at 0 2 1 (PutReply false) ∷ []) ∷ (first ∷ second ∷ []) ∷ [] ∷ [])
 
--- two puts of a client, of which the second one is refused
+-- two puts of a client, the second of which is refused
 abbrev pub two_puts : List RequestLine
 two_puts = line 2 (Put (codes "a") 7) ∷ line 3 (Put (codes "b") 8) ∷ []
 
@@ -87,7 +87,7 @@ put_and request = line 2 (Put (codes "a") 7) ∷ line 3 request ∷ []
 abbrev pub put_and_refused : Run
 put_and_refused = run (put_a ∷ []) ((reply_at 0 2 1 (PutReply false) ∷ no_slot 0 3 ∷ []) ∷ [])
 
--- a client puts `a` where it is not there; a second such line, of the same client or of another one, finds it there
+-- a client puts `a` if it is not there; a second such line, of the same client or of another one, finds it there
 abbrev pub put_new_a : List RequestLine
 put_new_a = line 2 (PutNew (codes "a") 7) ∷ []
 
@@ -97,14 +97,14 @@ put_new_twice = line 2 (PutNew (codes "a") 7) ∷ line 3 (PutNew (codes "a") 8) 
 abbrev pub only_replies : List Update → List Placed → Run
 only_replies updates replies = run updates (replies ∷ [])
 
--- beside the writer, another client has one request, which is answered behind the update of `a` and these
+-- besides the writer, another client has one request, which is answered after the update of `a` and these
 abbrev pub beside : Request → List (List RequestLine)
 beside request = writer ∷ (line 4 request ∷ []) ∷ []
 
 abbrev pub answered_beside : List Update → Placed → Run
 answered_beside updates answer = run (put_a ∷ updates) ((reply_at 0 2 1 (PutReply false) ∷ []) ∷ (answer ∷ []) ∷ [])
 
--- a client puts `a`, takes it out and puts `b`; another one has one request
+-- a client puts `a`, removes it and puts `b`; another one has one request
 abbrev pub three_changes : Request → List (List RequestLine)
 three_changes request = (line 2 (Put (codes "a") 7) ∷ line 3 (Delete (codes "a")) ∷ line 4 (Put (codes "b") 8) ∷ []) ∷ (line 6 request ∷ []) ∷ []
 
@@ -121,7 +121,7 @@ pub record RunRowsLaw : Type 0 where
   pub stale_head : ¬ (Legal 9 clients (looked (reply_at 1 4 0 Missing) (reply_at 1 5 1 Missing)))
   pub of_another_client : ¬ (Legal 9 clients (looked (reply_at 1 4 0 Missing) (reply_at 2 5 1 (Found 7))))
   pub of_another_line : ¬ (Legal 9 clients (looked (reply_at 1 4 0 Missing) (reply_at 1 4 1 (Found 7))))
-  -- an own update that the client was told of before
+  -- an own update that an earlier reply to the client has shown
   pub own_not_above : ¬ (Legal 9 ((line 2 (Head (codes "a")) ∷ line 3 (Put (codes "a") 7) ∷ []) ∷ [])
       (run (update 0 3 0 (PutVal 7) ∷ []) ((reply_at 0 2 1 (Found 7) ∷ reply_at 0 3 1 (PutReply false) ∷ []) ∷ [])))
   -- the journal has an update that no line made
@@ -139,7 +139,7 @@ pub record RunRowsLaw : Type 0 where
   pub list_refused : ¬ (Legal 1 (put_and list_all ∷ []) put_and_refused)
   pub v1_list_refused : ¬ (Legal 1 (put_and list_v1 ∷ []) put_and_refused)
   pub next_refused : ¬ (Legal 1 (put_and Next ∷ []) put_and_refused)
-  -- the first of two puts of a new key is made, and the second one finds it there
+  -- the first of two puts of a new key is made, and the second finds it there
   pub new_and_kept : Legal 9 (put_new_twice ∷ []) (only_replies (put_a ∷ []) (reply_at 0 2 1 (PutReply false) ∷ reply_at 0 3 1 Exists ∷ []))
   pub new_that_replaced : ¬ (Legal 9 (put_new_a ∷ []) (only_replies (put_a ∷ []) (reply_at 0 2 1 (PutReply true) ∷ [])))
   pub new_made_twice : ¬ (Legal 9 (put_new_twice ∷ [])
@@ -150,22 +150,22 @@ pub record RunRowsLaw : Type 0 where
   pub new_slot_used_up : Legal 1 (put_new_twice ∷ []) (only_replies (put_a ∷ []) (reply_at 0 2 1 (PutReply false) ∷ no_slot 0 3 ∷ []))
   pub new_one_update_early : ¬ (Legal 2 (put_new_twice ∷ []) (only_replies (put_a ∷ []) (reply_at 0 2 1 (PutReply false) ∷ no_slot 0 3 ∷ [])))
   pub new_counts : slots_of (put_new_twice ∷ []) 0 ≡ 3
-  -- what another client changed before the place, this client's first: a page, a put, a removal and a HEAD are of one
-  -- moment
+  -- replies that miss what another client changed before their place: a page, a put, a removal and a HEAD are each of
+  -- one moment
   pub stale_page_beside : ¬ (Legal 9 (beside list_all) (answered_beside [] (reply_at 1 4 1 (page []))))
   pub page_of_two_moments : ¬ (Legal 9 (three_changes list_all) (after_three (reply_at 1 6 3 (page (Key 0 7 ∷ Key 1 8 ∷ [])))))
   pub stale_put : ¬ (Legal 9 (beside (Put (codes "a") 8)) (answered_beside (update 1 4 0 (PutVal 8) ∷ []) (reply_at 1 4 2 (PutReply false))))
-  -- a put of a new key that does not see the key which another client put, or sees one that was taken out again
+  -- a put of a new key that does not see the key that another client put, or sees one that was removed again
   pub stale_new : ¬ (Legal 9 (beside (PutNew (codes "a") 8)) (answered_beside (update 1 4 0 (PutVal 8) ∷ []) (reply_at 1 4 2 (PutReply false))))
   pub kept_what_was_removed : ¬ (Legal 9 (three_changes (PutNew (codes "a") 9)) (after_three (reply_at 1 6 2 Exists)))
   pub stale_removal : ¬ (Legal 9 (beside (Delete (codes "a"))) (answered_beside [] (reply_at 1 4 1 Deleted)))
   pub found_what_was_removed : ¬ (Legal 9 (three_changes (Head (codes "a"))) (after_three (reply_at 1 6 2 (Found 7))))
-  -- a removal that stands in the name of another client
+  -- a removal recorded under another client
   pub in_the_name_of_another : ¬ (Legal 9 (beside (Delete (codes "a"))) (answered_beside (update 0 4 0 Remove ∷ []) (reply_at 1 4 2 Deleted)))
   pub place_falls_behind_a_page : ¬ (Legal 9 (writer ∷ (line 4 list_all ∷ line 5 (Head (codes "a")) ∷ []) ∷ [])
       (run (put_a ∷ []) ((reply_at 0 2 1 (PutReply false) ∷ []) ∷ (reply_at 1 4 1 (page (Key 0 7 ∷ [])) ∷ reply_at 1 5 0 Missing ∷ []) ∷ [])))
-  -- a page of version 1 is of one moment; it answers no LIST, nor does a page of version 2 a LISTV1, and NEXT passes
-  -- over it
+  -- a page of version 1 is of one moment; it answers no LIST, nor does a page of version 2 answer a LISTV1, and NEXT
+  -- skips it
   pub stale_v1_page : ¬ (Legal 9 (beside list_v1) (answered_beside [] (reply_at 1 4 1 (v1_reply []))))
   pub v1_page_for_a_list : ¬ (Legal 9 (beside list_all) (answered_beside [] (reply_at 1 4 1 (v1_reply (Key 0 7 ∷ [])))))
   pub page_for_a_v1_list : ¬ (Legal 9 (beside list_v1) (answered_beside [] (reply_at 1 4 1 (page (Key 0 7 ∷ [])))))

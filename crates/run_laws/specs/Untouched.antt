@@ -1,4 +1,4 @@
--- A client that keeps to names which no other client changes.
+-- A client that keeps to names that no other client changes.
 use Rattle.std.specs.Prelude.{◌≡◌, ◌≢◌, ℕ, ◌<◌, Bool, false, IsTrue, List, [], length, map, All, None}
 use Rattle.key_names.specs.Names.{Rises}
 use Rattle.key_map.specs.declared.pair.Pair.{Pair}
@@ -12,7 +12,7 @@ use Rattle.sample_laws.specs.Alone.{rank_of}
 use Rattle.sample_laws.specs.Own.{updates_of}
 use Rattle.run_laws.specs.Alone.{AreAlone}
 
--- the request names just such keys: a listing, each name under its prefix. NEXT goes on from a listing.
+-- the request names only such keys: a listing, each name under its prefix. NEXT continues a listing.
 abbrev pub KeepsTo : List (List ℕ) → (ℕ → Bool) → Request → Type 0
 KeepsTo dir own (Put name val) = IsTrue (own (rank_of dir name))
 KeepsTo dir own (PutNew name val) = IsTrue (own (rank_of dir name))
@@ -35,14 +35,14 @@ pub record IsUntouched (dir : List (List ℕ)) (own : ℕ → Bool) (parts : Lis
   pub left : (other : ℕ) → other < length parts → other ≢ client
       → All (λ (l : RequestLine). LeavesAlone dir own l.request) (lines_of parts other)
 
--- the client's updates are those that it makes alone, and its replies are, but for their places, those that it gets
+-- the client's updates are those that it makes alone, and its replies are, apart from their places, those that it gets
 -- alone
 pub record IsAsIfAlone (dir : List (List ℕ)) (run : Run) (client : ℕ) (lines : List RequestLine) : Type 0 where
   pub placed : List Placed
   pub alone : AreAlone dir client [] None lines placed (updates_of client run.updates)
   pub replies : map (λ (p : Placed). p.reply) (replies_of run client) ≡ map (λ (p : Placed). p.reply) placed
 
--- in each legal run, whatever the other clients do, where the client has more node slots than requests that may make an
+-- in each legal run, whatever the other clients do, if the client has more node slots than requests that may make an
 -- update
 abbrev pub UntouchedLaw : Type 0
 UntouchedLaw =

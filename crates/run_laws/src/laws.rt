@@ -6,27 +6,28 @@ ghost use Rattle.run_laws.specs.Renamed.{RenamedLaw};
 ghost use Rattle.run_laws.specs.RunRows.{RunRowsLaw};
 ghost use Rattle.run_laws.specs.Untouched.{UntouchedLaw};
 
-/// One client has one run: in a legal run of a session with one client, which has more node slots than PUT and DELETE
-/// lines, each request is answered on what the client's own requests before it have made, and no two such runs differ.
+/// One client has one run: in a legal run of a session with one client that has more node slots than PUT, PUTNEW and
+/// DELETE lines, each request is answered on what the client's own requests before it have made, and no two such runs
+/// differ.
 pub fn one_client()
     ensures alone { AloneLaw }
     ensures one_run { OneRunLaw }
 {}
 
-/// A client that keeps to names which no other client changes is answered as if it were alone, whatever the others do:
-/// its updates are those that it makes alone, and its replies those that it gets alone, but for their places.
+/// A client that keeps to names that no other client changes is answered as if it were alone, whatever the others do:
+/// its updates are those that it makes alone, and its replies are those that it gets alone, apart from their places.
 pub fn untouched_names()
     ensures untouched { UntouchedLaw }
 {}
 
-/// Clients that change their numbers, as two that change places: a legal run is then one of theirs, with their new
-/// numbers.
+/// Clients change their numbers, for example two that change places: a legal run is then one of the session with the
+/// new numbers.
 pub fn clients_renamed()
     ensures renamed { RenamedLaw }
 {}
 
-/// One input has one session at most, and none where it is refused; names have one directory. What a source gave and
-/// what a sink took is one list of bytes, where they tell it.
+/// One input has one session at most, and none if it is refused; names have one directory. What a source gave and
+/// what a sink took is one list of bytes, if they report it.
 pub fn one_input()
     ensures input { OneInputLaw }
     ensures reading { OneReadingLaw }
@@ -37,13 +38,13 @@ pub fn one_input()
     ensures directory { OneDirectoryLaw }
 {}
 
-/// Small sessions of up to three clients: runs that are legal, and runs beside them that are not.
+/// Small sessions of up to three clients: runs that are legal, and similar runs that are not.
 pub fn run_rows()
     ensures rows { RunRowsLaw }
 {}
 
-/// A common prefix ends with the first delimiter at or behind the prefix's length. A listing with `start_after` is the
-/// one from that key on, and with a point `start_after` has no effect. Behind a truncated page there is an entry.
+/// A common prefix ends with the first delimiter at or after the prefix's length. A listing with `start_after` is the
+/// one from that key on, and with a point `start_after` has no effect. After a truncated page there is an entry.
 pub fn page_laws()
     ensures group { GroupLaw }
     ensures no_group { NoGroupLaw }

@@ -1,4 +1,4 @@
-//! Laws on the definitions that the program's promise is made of: what a legal run, an input and a directory determine.
+//! Laws on the definitions on which the program's promise rests: what a legal run, an input and a directory determine.
 //! The calls do nothing: their clauses are what is proved.
 #![tactic(auto)]
 

@@ -60,7 +60,7 @@ one_cut old replies now left front rest n piece is_front is_rest its_text its_ra
 
 -- ---- the journal
 
--- of the journal these updates are left, with so many before them, and the pieces have all of those
+-- of the journal these updates are left, with this many before them, and the pieces have all of those
 pub record LeavesJournal (old : List Piece) (updates : List Update) (now : List Piece) (before : ℕ) (left : List Update) : Type 0 where
   pub counted : before + length left ≡ length updates
   pub text : (dir : List (List ℕ)) (records : List Record) → pieces_text dir records now ++ journal_lines dir (before + 1) left ≡ pieces_text dir records old ++ journal_lines dir 1 updates

@@ -12,7 +12,7 @@ use Rattle.run_text.specs.Sheets.{AreFilled, IsFilledAt}
 use Rattle.run_text.proofs.Starts.{first_started, next_taken, next_started}
 use Rattle.run_text.proofs.Cuts.{journal-both}
 
--- the line of one update more
+-- the line of one more update
 pub update_pushed : (dir : List (List ℕ)) (first : ℕ) (updates : List Update) (i place : ℕ) (d u : Update) (front now next : List ℕ)
     → i < length updates → u ≡ get_or updates i d → place ≡ first + i → now ≡ front ++ journal_lines dir first (take i updates) → next ≡ now ++ line_of (journal_data dir place u)
     → next ≡ front ++ journal_lines dir first (take (i + 1) updates)
@@ -51,7 +51,7 @@ module _ (dir : List (List ℕ)) (records : List Record) (pieces : List Piece) (
     sheet_taken filled second =
         next_taken (λ (p : Piece). part_text dir records p.part) pieces i 1 before between now first (subst (IsTaken between now) (sym (one_text filled)) second)
 
-    -- of a sheet that was not filled nothing was taken
+    -- nothing was taken of a sheet that was not filled
     pub sheet_started : (now ≡ between) ⊎ ((sheet.filled ≡ Ok tt) × TakesStart between now (string_bytes sheet.text)) → TakesStart before now (pieces_text dir records pieces)
     sheet_started (inl same) =
         first_started (λ (p : Piece). part_text dir records p.part) pieces i before now

@@ -12,7 +12,7 @@ pub taken_nothing : (o : Option (List ℕ)) → IsTaken o o []
 taken_nothing (Some taken) = sym (append-nil taken)
 taken_nothing None = refl
 
--- a start of what comes behind bytes that were taken whole
+-- a start of what comes after bytes that were taken whole
 pub start_behind : (before between now : Option (List ℕ)) (front piece : List ℕ) → IsTaken before between front → TakesStart between now piece → TakesStart before now (front ++ piece)
 start_behind before between now front piece whole start = record {
   count = length front + start.count;
@@ -36,7 +36,7 @@ all_started before now bytes taken = record {
   taken = subst (IsTaken before now) (sym (take_all (length bytes) bytes (omega arith))) taken;
 }
 
--- ---- texts of the elements of a list, one behind another
+-- ---- texts of the elements of a list, one after another
 
 module _ {X : Type 0} (text : X → List ℕ) (xs : List X) (done n : ℕ) where
   abbrev behind : List X
@@ -48,13 +48,13 @@ module _ {X : Type 0} (text : X → List ℕ) (xs : List X) (done n : ℕ) where
   whole : flat_map text (take (done + n) xs) ++ flat_map text (drop (done + n) xs) ≡ flat_map text xs
   whole = sym (flat_map-append text (take (done + n) xs) (drop (done + n) xs)) ∙ ap (flat_map text) (take-append-drop (done + n) xs)
 
-  -- the next ones were taken behind the first
+  -- the next ones were taken after the first
   pub next_taken : (before between now : Option (List ℕ)) → IsTaken before between (flat_map text (take done xs)) → IsTaken between now (flat_map text behind)
       → IsTaken before now (flat_map text (take (done + n) xs))
   next_taken before between now first second =
       subst (IsTaken before now) both (taken_both before between now (flat_map text (take done xs)) (flat_map text behind) first second)
 
-  -- a start of the next ones was taken behind the first
+  -- a start of the next ones was taken after the first
   pub next_started : (before between now : Option (List ℕ)) → IsTaken before between (flat_map text (take done xs)) → TakesStart between now (flat_map text behind)
       → TakesStart before now (flat_map text xs)
   next_started before between now first second =
@@ -83,7 +83,7 @@ module _ (bytes line : List ℕ) (done n : ℕ) (is : line ≡ take n (drop done
       (start_of_more before now (take (done + n) bytes) (drop (done + n) bytes)
       (subst (TakesStart before now) both_lines (start_behind before between now (take done bytes) line first second)))
 
--- a start of what is left behind the first lines
+-- a start of what is left after the first lines
 pub rest_started : (bytes rest : List ℕ) (done : ℕ) → rest ≡ drop done bytes → (before between now : Option (List ℕ)) → IsTaken before between (take done bytes)
     → TakesStart between now rest → TakesStart before now bytes
 rest_started bytes rest done is before between now first second =
@@ -91,12 +91,12 @@ rest_started bytes rest done is before between now first second =
 
 -- ---- a front of what is left
 
--- the first elements of what is behind others
+-- the first elements of what comes after others
 pub front_of : {X : Type 0} (xs left front : List X) (done n : ℕ) → left ≡ drop done xs → front ≡ take n left → length front ≡ n → front ≡ take (length front) (drop done xs)
 front_of xs left front done n is_left is_front long =
     is_front ∙ ap (take n) is_left ∙ ap (λ (m : ℕ). take m (drop done xs)) (sym long)
 
--- what holds anyway holds where there is an error
+-- what holds in any case holds if there is an error
 pub on_err : {T E P : Type 0} (r : Result T E) → P → OnErr r P
 on_err (Ok x) holds = tt
 on_err (Err e) holds = holds

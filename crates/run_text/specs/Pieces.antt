@@ -1,5 +1,5 @@
 -- Helper: the headline does not rest on this file.
--- The pieces that a run's text is put together from, and their texts.
+-- The pieces from which a run's text is put together, and their texts.
 use Rattle.std.specs.Prelude.{◌≡◌, ℕ, ◌+◌, ◌<◌, ◌^◌, List, ◌++◌, length, All}
 use Rattle.std.specs.List.{flat_map}
 use Rattle.key_map.specs.declared.update.Update.{Update}
@@ -12,12 +12,12 @@ use Rattle.run_text.specs.declared.pieces.Part.{Part}
 use Rattle.run_text.specs.declared.pieces.Part.TheVariants.{Replies, Updates}
 use Rattle.run_text.specs.declared.pieces.Piece.{Piece}
 
--- the lines of a part: of replies, or of updates with so many before them
+-- the lines of a part: of replies, or of updates with this many before them
 abbrev pub part_text : List (List ℕ) → List Record → Part → List ℕ
 part_text dir records (Replies replies) = reply_lines dir records replies.now
 part_text dir records (Updates before updates) = journal_lines dir (before + 1) updates.now
 
--- the text of the pieces, one behind another
+-- the text of the pieces, one after another
 abbrev pub pieces_text : List (List ℕ) → List Record → List Piece → List ℕ
 pieces_text dir records pieces = flat_map (λ (p : Piece). part_text dir records p.part) pieces
 
@@ -34,13 +34,13 @@ IsPartOf dir records (Updates before updates) = AreUpdatesOf dir before updates.
 abbrev pub IsPieceOf : List (List ℕ) → List Record → Piece → Type 0
 IsPieceOf dir records piece = IsPartOf dir records piece.part
 
--- these replies come behind the pieces
+-- these replies come after the pieces
 pub record AddsReplies (old : List Piece) (replies : List Placed) (new : List Piece) : Type 0 where
   pub text : (dir : List (List ℕ)) (records : List Record) → pieces_text dir records new ≡ pieces_text dir records old ++ reply_lines dir records replies
   pub in_range : (dir : List (List ℕ)) (records : List Record) → All (IsPieceOf dir records) old
       → All (λ (p : Placed). IsReplyOf dir records p.reply) replies → All (IsPieceOf dir records) new
 
--- this journal comes behind the pieces
+-- this journal comes after the pieces
 pub record AddsJournal (old : List Piece) (updates : List Update) (new : List Piece) : Type 0 where
   pub text : (dir : List (List ℕ)) (records : List Record) → pieces_text dir records new ≡ pieces_text dir records old ++ journal_lines dir 1 updates
   pub in_range : (dir : List (List ℕ)) (records : List Record) → All (IsPieceOf dir records) old

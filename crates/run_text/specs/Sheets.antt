@@ -11,7 +11,7 @@ use Rattle.run_text.specs.declared.stop.Stop.TheVariants.{Fault}
 use Rattle.run_text.specs.Pieces.{part_text, IsPieceOf}
 use Rattle.outside_io.specs.Streams.{one_more, IsTaken, TakesStart}
 
--- where memory sufficed, the sheet has the text of the piece
+-- if memory sufficed, the sheet has the text of the piece
 abbrev pub IsFilled : List (List ℕ) → List Record → Piece → Sheet → Type 0
 IsFilled dir records piece sheet = sheet.filled ≡ Ok tt → string_bytes sheet.text ≡ part_text dir records piece.part
 
@@ -36,7 +36,7 @@ pub record AreFilled (dir : List (List ℕ)) (records : List Record) (pieces : L
   pub enough : length pieces ≤ length sheets
   pub each : (place : ℕ) (d : Sheet) → place < length pieces → IsFilledAt dir records pieces place (slice_index_or sheets place d)
 
--- a text was written whole, or a start of it: a fault came exactly where one was counted
+-- a text was written whole, or a start of it: there was a fault exactly if one was counted
 pub record Writes (text : List ℕ) (before now : Option (List ℕ)) (faults_before faults_now : ℕ) (result : Result (Unit {0}) Stop) : Type 0 where
   pub taken : OnOk result (IsTaken before now text)
   pub start : (stop : Stop) → IsErrOf result stop → TakesStart before now text

@@ -5,7 +5,7 @@ use Rattle.bucket_terms.specs.declared.record.Record.{Record}
 use Rattle.answer_text.specs.declared.entry_texts.EntryText.{EntryText}
 use Rattle.answer_text.specs.EntryTexts.{AreRight, WantedView}
 
--- where memory was there, each text is right
+-- if memory sufficed, each text is right
 abbrev pub IsPartRight : {E : Type 0} → List (List ℕ) → List Record → Result (List (Option EntryText)) E → Type 0
 IsPartRight dir records part = IfOk part (AreRight dir records)
 

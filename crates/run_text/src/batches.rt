@@ -1,4 +1,6 @@
-// A batch of pieces: their texts are put together at once, and are written in order.
+// A batch of pieces: their texts are put together concurrently, and are written in order.
+// rayon is not used: it cuts a list in two for each processor and keeps the whole text; its chains are for thousands
+// of light items.
 ghost use Rattle.std.specs.Prelude.{◌≡◌, ◌<◌, ◌≤◌, length, OnOk};
 ghost use Rattle.std.specs.Thread.{IsSync};
 ghost use Rattle.run_text.specs.Pieces.{pieces_text};
@@ -14,8 +16,8 @@ use key_names::Directory;
 use outside_io::Sink;
 use std::thread::{Threads, join_mut, yield_now};
 
-/// Writes the texts of a batch, which are on the first sheets, and puts those of the next one on other sheets meanwhile,
-/// on other threads. Where there is one sheet the caller does one behind the other.
+/// Writes the texts of a batch, which are on the first sheets, while other threads put those of the next one on other
+/// sheets. If there is one sheet, the caller does one after the other.
 pub(crate) fn write_beside<K: Sink, Rt: Threads + Sync>(
     rt: &Rt,
     sink: &mut K,
@@ -46,7 +48,7 @@ pub(crate) fn write_beside<K: Sink, Rt: Threads + Sync>(
         requires { AreFilled dir.now records.now batch.now filled.now }
         ensures { Writes (pieces_text dir.entry.now records.entry.now batch.entry.now) (K.taken sink.entry.now) (K.taken sink.exit.now) (K.faults sink.entry.now) (K.faults sink.exit.now) result }
     {
-        // The thread that fills has begun on this processor. Its turn comes first: it wakes the others.
+        // The thread that fills has begun on this processor. It gets the first turn, since it wakes the others.
         yield_now();
         write_batch(sink, dir, records, batch, filled)
     };
@@ -54,7 +56,7 @@ pub(crate) fn write_beside<K: Sink, Rt: Threads + Sync>(
     written
 }
 
-// Writes the texts of the pieces, which are on the first sheets. The directory and the records say which texts these are.
+// Writes the texts of the pieces, which are on the first sheets. The directory and the records determine these texts.
 fn write_batch<K: Sink>(
     sink: &mut K,
     _dir: &Directory,
@@ -71,7 +73,7 @@ fn write_batch<K: Sink>(
     Ok(())
 }
 
-/// Puts the texts of the pieces on the first sheets, at once.
+/// Puts the texts of the pieces on the first sheets, concurrently.
 pub(crate) fn fill_all<Rt: Threads + Sync>(
     rt: &Rt,
     dir: &Directory,
@@ -88,7 +90,7 @@ pub(crate) fn fill_all<Rt: Threads + Sync>(
     fill_each(rt, dir, records, texts, pieces, used);
 }
 
-// Puts the text of each piece on the sheet at its place, each on a thread of its own, where one can be started.
+// Puts the text of each piece on the sheet at its place, each on a thread of its own, if one can be started.
 fn fill_each<Rt: Threads + Sync>(
     rt: &Rt,
     dir: &Directory,

@@ -9,7 +9,7 @@ use key_names::{Directory, NoMemory};
 
 // The bytes of a line without names: of a reply about one key, of a listing without its entries, of an entry, of an
 // update. They are rather too many than too few, with tags of 32 bytes: a buffer that is too short is copied as it
-// grows, and of one that is too long the rest is never touched.
+// grows, and the unused rest of one that is too long is never touched.
 const REPLY_BYTES: usize = 160;
 
 const LISTING_BYTES: usize = 400;
@@ -18,7 +18,7 @@ const ENTRY_BYTES: usize = 128;
 
 const UPDATE_BYTES: usize = 80;
 
-/// The bytes that a name of the directory has on average.
+/// The average number of bytes of a name of the directory.
 pub(crate) fn name_bytes(dir: &Directory) -> usize {
     let mut bytes: usize = 0;
     for rank in 0..dir.len() {
@@ -79,7 +79,7 @@ struct First {
     entries: usize,
 }
 
-// As many of the first replies as a piece has, by the estimate of their bytes: at least one, however long its line is.
+// The first replies that make a piece, by the estimate of their bytes: at least one, however long its line is.
 fn first_piece(replies: &[Placed], name_bytes: usize) -> First
     requires { 0 < length replies.now }
     ensures some { 0 < result.count }

@@ -15,19 +15,19 @@ use key_names::{Directory, NoMemory};
 use std::alloc::Global;
 use std::thread::Threads;
 
-// How often a record has to be shown on average, so that the texts of entries are kept. A page keeps 8 bytes for a key,
+// How often a record has to be shown on average for the texts of entries to be kept. A page keeps 8 bytes for a key,
 // and a text has some 200: so the texts take at most some three times what the pages take.
 const OFTEN: usize = 8;
 
 // How often a record is met on average in the pages that are looked at. One that is shown less often than others may
-// not be met: its text is made for each page.
+// not be met: its text is then made for each page.
 const MET: usize = 4;
 
-// 2^32 divided by the golden ratio: its multiples, of which 32 bits are kept, lie nowhere close together.
+// 2^32 divided by the golden ratio: no two of its multiples, of which 32 bits are kept, are close together.
 const GOLDEN: u32 = 0x9E37_79B9;
 
-/// The texts of the entries that the pages of these pieces show without escapes, where the pages show many more entries
-/// than there are records; else none. Each of so many threads makes a share of them.
+/// The texts of the entries that the pages of these pieces show without escapes, if the pages show many more entries
+/// than there are records; otherwise none. Each of this many threads makes a share of them.
 pub(crate) fn entry_texts<Rt: Threads + Sync>(
     rt: &Rt,
     alloc: Global,
@@ -47,7 +47,7 @@ pub(crate) fn entry_texts<Rt: Threads + Sync>(
     made(rt, alloc, &wanted, threads)
 }
 
-// The entries of one of so many pages, and the first rank with which a record is met there.
+// The entries of one page of this many, and the first rank with which a record is met there.
 fn wanted_texts<'a>(
     alloc: Global,
     dir: &'a Directory,
@@ -68,14 +68,14 @@ fn wanted_texts<'a>(
     Ok(wanted)
 }
 
-/// The places from one on up to another one.
+/// The places from one up to another.
 #[derive(Clone, Copy, Debug)]
 struct Share {
     from: usize,
     to: usize,
 }
 
-// So many places in so many shares, one behind the other.
+// This many places in this many shares, one after another.
 fn shares(alloc: Global, places: usize, threads: usize) -> Result<Vec<Share>, NoMemory> {
     let most = places.div_ceil(threads.max(1));
     let mut shares = Vec::new(alloc);
@@ -121,7 +121,7 @@ fn made_apart<Rt: Threads + Sync>(
     Ok(map_vec(rt, shares, &make)?)
 }
 
-/// Which pages are looked at: one of so many, spread evenly, and in no short pattern.
+/// Which pages are looked at: one of this many, spread evenly, and in no short pattern.
 #[derive(Debug, Drop)]
 struct ChosenPages {
     most: u32,
@@ -154,7 +154,7 @@ fn shown(pieces: &[Piece<'_>]) -> usize {
     entries
 }
 
-// Wants the texts of the entries of these replies.
+// Marks the texts of the entries of these replies as wanted.
 fn want_all(wanted: &mut WantedTexts<'_>, replies: &[Placed], pages: &mut ChosenPages)
     requires { All (λ (p : Placed). IsReplyOf wanted.old.dir wanted.old.records p.reply) replies.now }
     ensures { IsWantedOf wanted.old.dir wanted.old.records wanted.new }
@@ -166,7 +166,7 @@ fn want_all(wanted: &mut WantedTexts<'_>, replies: &[Placed], pages: &mut Chosen
     }
 }
 
-// Wants the texts of the entries of a page that shows them without escapes.
+// Marks the texts of the entries of a page that shows them without escapes as wanted.
 fn want_reply(wanted: &mut WantedTexts<'_>, reply: &Reply)
     requires { IsReplyOf wanted.old.dir wanted.old.records reply.now }
     ensures { IsWantedOf wanted.old.dir wanted.old.records wanted.new }
@@ -178,7 +178,7 @@ fn want_reply(wanted: &mut WantedTexts<'_>, reply: &Reply)
     }
 }
 
-// Wants the texts of the entries of this page.
+// Marks the texts of the entries of this page as wanted.
 fn want_page(wanted: &mut WantedTexts<'_>, page: &Page)
     requires { IsPageOf wanted.old.dir wanted.old.records page.now }
     ensures { IsWantedOf wanted.old.dir wanted.old.records wanted.new }

@@ -4,7 +4,7 @@ ghost use Rattle.outside_io.specs.Streams.{one_more, IsTaken, TakesStart};
 
 use outside_io::{Sink, WriteFault, write_all};
 
-/// Writes the text, one write a line: `ends` has the place behind each line. What stands behind the last one is written
+/// Writes the text, one write a line: `ends` has the place after each line. What stands after the last one is written
 /// too. A sink with a buffer is handed the whole text at once.
 pub(crate) fn write_lines<K: Sink>(
     sink: &mut K,

@@ -1,4 +1,4 @@
-// The pieces that the text of a run is put together from.
+// The pieces from which the text of a run is put together.
 ghost use Rattle.std.specs.Prelude.{◌≡◌, []};
 
 use crate::cutting::name_bytes;
@@ -8,10 +8,10 @@ use key_names::Directory;
 use std::alloc::Global;
 use std::marker::Model;
 
-/// How many bytes the text of a piece is to have. It is estimated before the text is there.
+/// How many bytes the text of a piece is to have. The number is an estimate made before the text exists.
 pub(crate) const PIECE_BYTES: usize = 1 << 20;
 
-/// What the lines of a piece tell.
+/// What the lines of a piece say.
 #[derive(Clone, Copy, Debug)]
 pub(crate) enum Part<'a> {
     /// Replies of one client.
@@ -21,7 +21,7 @@ pub(crate) enum Part<'a> {
 }
 
 impl<'a> Part<'a> {
-    /// How many lines tell it.
+    /// How many lines say it.
     pub(crate) fn line_count(&self) -> usize {
         match self {
             Part::Replies(replies) => replies.len(),
@@ -30,7 +30,7 @@ impl<'a> Part<'a> {
     }
 }
 
-/// What the lines of a piece tell, how many bytes they are estimated to have, and how many entries their pages show.
+/// What the lines of a piece say, how many bytes they are estimated to have, and how many entries their pages show.
 #[derive(Clone, Copy, Debug)]
 pub(crate) struct Piece<'a> {
     pub(crate) part: Part<'a>,
@@ -49,7 +49,7 @@ pub(crate) struct Piece<'a> {
 #[derive(Drop)]
 pub struct Pieces<'a> {
     pub(crate) pieces: Vec<Piece<'a>>,
-    // The bytes of a name, on average.
+    // The average number of bytes of a name.
     pub(crate) name_bytes: usize,
 }
 

@@ -22,8 +22,8 @@ use outside_io::Sink;
 use std::alloc::Global;
 use std::mem;
 
-// The names of so many updates are looked at before the line of the first of them is made. Each may lie anywhere in memory,
-// and the waits for all of them are one then.
+// The names of this many updates are looked at before the line of the first of them is made. Each may lie anywhere in
+// memory, and this way the waits for all of them overlap.
 const AHEAD: usize = 16;
 
 /// The text of a piece, in buffers that serve for the next one too.
@@ -46,7 +46,8 @@ impl Sheet {
         }
     }
 
-    /// A sheet without a text. It has room for one of so many lines and bytes, where that is to be had.
+    /// A sheet without a text. It has room for one of this many lines and bytes, if available. The caller makes the
+    /// room: what the run has given back is the caller's memory, while a thread takes new memory.
     pub(crate) fn with_room(alloc: Global, lines: usize, bytes: usize) -> Sheet {
         let mut sheet = Sheet::empty(alloc);
         // Without the room the buffers grow as they are filled.
@@ -55,8 +56,8 @@ impl Sheet {
         sheet
     }
 
-    /// Puts the text of the piece in the place of what the sheet had. The sheet is filled on the stack of its thread: those
-    /// of other threads stand beside it, and where two processors write into one line of their caches by turns, each waits
+    /// Replaces what the sheet had by the text of the piece. The sheet is filled on the stack of its thread: those of
+    /// other threads are next to it in memory, and if two processors write into one cache line by turns, each waits
     /// for the other at every write.
     pub(crate) fn fill(
         &mut self,
@@ -113,7 +114,7 @@ impl Sheet {
         Ok(())
     }
 
-    // Updates with so many before them. Places are counted from 1.
+    // Updates with this many before them. Places are counted from 1.
     fn push_updates(
         &mut self,
         dir: &Directory,
@@ -149,7 +150,7 @@ impl Sheet {
         Ok(())
     }
 
-    /// Writes the text that is on the sheet, one write a line, or at once where the sink has a buffer.
+    /// Writes the text that is on the sheet, one write a line, or at once if the sink has a buffer.
     pub(crate) fn write<K: Sink>(&self, sink: &mut K) -> Result<(), Stop>
         ensures taken { OnOk result (IsTaken (K.taken sink.old) (K.taken sink.new) (string_bytes self.now.text)) }
         ensures filled { OnOk result (self.now.filled ≡ Ok tt) }

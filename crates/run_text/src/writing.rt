@@ -1,4 +1,4 @@
-// Pieces that are written in order, and the texts of the next ones are put together meanwhile.
+// Pieces are written in order, and the texts of the next ones are put together meanwhile.
 ghost use Rattle.std.specs.Prelude.{◌≡◌, ◌<◌, ◌≤◌, take, drop, length, All, OnOk, IfOk, IsErrOf};
 ghost use Rattle.outside_io.specs.Streams.{one_more, IsTaken, TakesStart};
 ghost use Rattle.answer_text.specs.EntryTexts.{AreRight};
@@ -20,9 +20,9 @@ use std::thread::Threads;
 use std::{mem, thread};
 
 impl<'a> Pieces<'a> {
-    /// Writes the text of the pieces, one write a line, or one a piece where the sink has a buffer. As many pieces are put
-    /// together at once as the machine runs threads, while the caller writes those before them, whose buffers serve again;
-    /// a text of no more bytes than a piece has starts no thread.
+    /// Writes the text of the pieces, one write a line, or one a piece if the sink has a buffer. As many pieces are put
+    /// together at once as the machine runs threads, while the caller writes those before them, whose buffers are
+    /// reused; a text of no more bytes than a piece has starts no thread.
     pub fn write<K: Sink, Rt: Threads + Sync>(
         &self,
         rt: &Rt,
@@ -61,7 +61,7 @@ fn write_pieces<K: Sink, Rt: Threads + Sync>(
 {
     let room = most_room(pieces);
     let mut filled = empty_sheets(alloc, most, room)?;
-    // Where one batch has all pieces, the others stay empty.
+    // If one batch has all pieces, the others stay empty.
     let spare_room = if pieces.len() > most {
         room
     } else {
@@ -89,7 +89,7 @@ fn write_pieces<K: Sink, Rt: Threads + Sync>(
     Ok(())
 }
 
-// The pieces from this one on, at most so many.
+// At most this many of the pieces from this one on.
 fn batch_at<'a, 'b>(pieces: &'b [Piece<'a>], done: usize, most: usize) -> &'b [Piece<'a>]
     requires { done ≤ length pieces.now }
     ensures batch { result.now ≡ take most (drop done pieces.now) }
@@ -113,8 +113,8 @@ impl Room {
     }
 }
 
-// So many sheets without a text, with this room. The caller makes the room, since the memory that the run has given back is
-// the caller's, and a thread that makes it takes new memory.
+// This many sheets without a text, with this room. The caller makes the room, since the memory that the run has given
+// back is the caller's, and a thread that makes it takes new memory.
 fn empty_sheets(alloc: Global, count: usize, room: Room) -> Result<Vec<Sheet>, NoMemory>
     ensures { IfOk result (λ sheets. length sheets.items ≡ count) }
 {
@@ -125,7 +125,7 @@ fn empty_sheets(alloc: Global, count: usize, room: Room) -> Result<Vec<Sheet>, N
     Ok(sheets)
 }
 
-// The most lines that a piece has, and about the most bytes: an eighth more than they are estimated at.
+// The most lines that a piece has, and about the most bytes: an eighth more, since the bytes are estimated.
 fn most_room(pieces: &[Piece<'_>]) -> Room {
     let mut lines = 0;
     let mut bytes = 0;

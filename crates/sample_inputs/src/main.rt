@@ -1,5 +1,5 @@
-// Prints the input of the generated session, with as many requests of each client as the word says; without a word,
-// with three. `tests/sample_inputs.py` compares it with a model.
+// Prints the input of the generated session, with as many requests of each client as the argument says; without an
+// argument, with three. `tests/program/sample_inputs.py` compares it with a model.
 #![tactic(auto)]
 
 use outside_io::{StdSink, write_all};

@@ -1,5 +1,5 @@
 -- What a right reply says of the client's own pairs: the reply is the one that the client gets alone, and the pairs at
--- its place are those that the client has alone behind the request.
+-- its place are those that the client has alone after the request.
 use Rattle.std.proofs.Common.{◌≡◌, ℕ, zero, suc, ◌+◌, ◌-◌, ◌<◌, ◌⊎◌, Bool, true, false, cond, List, [], ◌∷◌, length, map, refl, sym, ap, ◌∙◌, subst, arith, inl, inr, Option, Some, None, All}
 use Rattle.std.specs.Bool.{IsTrue}
 use Rattle.std.specs.List.{slice_get}
@@ -47,11 +47,11 @@ page-own dir query point m =
 
 -- ---- one answer
 
--- the client's own pairs behind the first `t` updates
+-- the client's own pairs after the first `t` updates
 abbrev pub own_map : Setting → ℕ → List Pair
 own_map s t = made_by (own_upto s t)
 
--- behind the place `p`, at the place `q`, the client has what it has alone behind the request
+-- after the place `p`, at the place `q`, the client has what it has alone after the request
 pub record Follows (s : Setting) (p q : ℕ) (request : Request) (reply : Reply) : Type 0 where
   pub same_reply : reply ≡ reply_on s.dir (own_map s p) request
   pub pairs : own_map s q ≡ map_behind s.dir (own_map s p) request
@@ -102,7 +102,7 @@ module _ (s : Setting) (prefix : List ℕ) (rising : Rises s.dir) (split : (t : 
   same_was : (b c : Bool) → PutReply b ≡ PutReply c → b ≡ c
   same_was b c is = cc
 
-  -- a put of a key that was not there is a put, of which the reply tells that it was not there
+  -- a put of a key that was not there is a put whose reply says that it was not there
   pub follows_new : (p q line val : ℕ) (name : List ℕ) (a : Answered) → IsTrue (begins_with name prefix) → UpdateStands s line name (PutVal val) false q
       → ((v : Update) → update_at s q ≡ Some v → IsOf s line v → p < q) → Stays s p q ⊎ Adds s p q a → Follows s p q (PutNew name val) (PutReply false)
   follows_new p q line val name a begins stands strict what =

@@ -1,4 +1,4 @@
--- The length of a map, and what is in it, behind a put and behind a removal.
+-- The length of a map, and what is in it, after a put and after a removal.
 use Rattle.std.proofs.Common.{◌≡◌, ℕ, ◌+◌, ◌<◌, false, cond, not, ◌&&◌, ◌||◌, List, [], ◌∷◌, length, ◌==◌, refl, arith}
 use Rattle.std.proofs.lemmas.Bool.Decides.{nat_tests}
 use Rattle.key_map.specs.declared.pair.Pair.{Pair}

@@ -59,7 +59,7 @@ module _ (dir : List (List ℕ)) (parts : List (List RequestLine)) (slots : ℕ 
       (made.0, own_change dir (prefix u.client) u both.0.asked.request both.1.1 both.1.0.change)
 
   module _ (c : ℕ) (below : c < length parts) where
-    -- a key that an update has is the client's own just where the update is
+    -- a key that an update has is the client's own exactly if the update is
     same_test : (i : ℕ) (u : Update) → slice_get run.updates i ≡ Some u → is_own dir (prefix c) u.key ≡ eqb u.client c
     same_test i u here = by_test (eqb u.client c) refl
       where

@@ -25,7 +25,7 @@ RisesFrom-part own low (p ∷ ps) r =
     by_test true rest = (r.0, rest)
     by_test false rest = let first : low ≤ p.key = r.0 in RisesFrom-lower low (p.key + 1) (part own ps) (omega arith) rest
 
--- a key below all others is put in front
+-- a key below all others is put first
 put_front : (key val low : ℕ) (m : List Pair) → key < low → RisesFrom low m → map_put key val m ≡ pair key val ∷ m
 put_front key val low [] le r = refl
 put_front key val low (p ∷ ps) le r = grind (arith, nat_tests)
@@ -88,7 +88,7 @@ pub part-after : (own : ℕ → Bool) (us : List Update) (t : ℕ) → part own 
 unfolding after
 part-after own us t = part-fold own (take t us) [] tt
 
--- ---- what the pairs of some keys tell
+-- ---- what follows from the pairs of some keys
 
 pub map_has-part : (own : ℕ → Bool) (key : ℕ) (m : List Pair) → own key ≡ true → map_has key m ≡ map_has key (part own m)
 map_has-part own key [] mine = refl
@@ -98,7 +98,7 @@ pub map_get-part : (own : ℕ → Bool) (key : ℕ) (m : List Pair) → own key 
 map_get-part own key [] mine = refl
 map_get-part own key (p ∷ ps) mine = let rest = map_get-part own key ps mine in grind (arith, nat_tests)
 
--- a filter by one test, of what passes the same test and another
+-- a filter by one test, applied to what passes the same test and another
 pub filter-within : {X : Type 0} (f g : X → Bool) (xs : List X) → filter f (filter g (filter f xs)) ≡ filter f (filter g xs)
 filter-within f g [] = refl
 filter-within f g (x ∷ xs) = let rest = filter-within f g xs in grind arith

@@ -14,7 +14,7 @@ use Rattle.bucket_terms.specs.LegalRun.{RequestLine, Setting, Answered, IsOf, up
 use Rattle.bucket_terms.specs.RunParts.{IsPlacedUpTo, IsPlacedBelow}
 use Rattle.sample_laws.specs.Own.{updates_of}
 
--- ---- some item of a list
+-- ---- an item of a list
 
 any_cons : {X : Type 0} (P : X → Type 0) (x : X) (xs : List X) → Any P (x ∷ xs) → P x ⊎ Any P xs
 any_cons {X} P x xs h = by_place h.0 h.1 h.2 h.3 h.4
@@ -75,7 +75,7 @@ updates_of-push client [] u = refl
 updates_of-push client (v ∷ us) u =
     let rest = updates_of-push client us u in grind arith
 
--- where no update from the place `p` on is the client's, the first `p` have all of its updates
+-- if no update from the place `p` on is the client's, the first `p` have all of its updates
 pub none_between : (client : ℕ) (us : List Update) (p t : ℕ) → p ≤ t
     → ((i : ℕ) (u : Update) → p ≤ i → i < t → slice_get us i ≡ Some u → u.client ≡ client → ⊥)
     → updates_of client (take t us) ≡ updates_of client (take p us)
@@ -166,7 +166,7 @@ later_above s earlier (l ∷ lines) (r ∷ replies) h i u here own made =
       | inr later ↦ front_of (IsPlacedBelow (i + 1)) earlier a (later_above s (earlier ++ a ∷ []) lines replies h.1 i u here own later)
     ]
 
--- the client's updates behind the front, up to the place of the next answer, are the next request's
+-- the client's updates after the front, up to the place of the next answer, are the next request's
 pub own_here : (s : Setting) (earlier : List Answered) (a : Answered) (lines : List RequestLine) (replies : List Placed) (p q : ℕ)
     → IsFront earlier p → a.placed.at ≡ Some q → AreAnswered s (earlier ++ a ∷ []) lines replies
     → AreMadeBy s (earlier ++ a ∷ answered_lines lines replies)
@@ -186,7 +186,7 @@ own_here s earlier a lines replies p q front at rest made i u low below here own
       ]
     ]
 
--- no update of the client behind the last answer
+-- no update of the client after the last answer
 pub none_left : (s : Setting) (earlier : List Answered) (p : ℕ) → IsFront earlier p → AreMadeBy s (earlier ++ [])
     → updates_of s.client s.updates ≡ own_upto s p
 none_left s earlier p front made =

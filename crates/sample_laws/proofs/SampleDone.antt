@@ -1,4 +1,4 @@
--- What a client of the generated session has alone, by its names, is what it has by the numbers in them.
+-- What a client of the generated session has alone is the same by its names and by the numbers in them.
 use Rattle.std.proofs.Common.{◌≡◌, ℕ, zero, suc, ◌+◌, ◌*◌, ◌%◌, ◌<◌, ◌≤◌, Bool, true, false, cond, not, ◌&&◌, ◌||◌, ◌==◌, min, List, [], ◌∷◌, ◌++◌, length, refl, sym, ap, ◌∙◌, subst, arith, inl, inr, All}
 use Rattle.std.specs.List.{AllByRecursion, sum_by}
 use Rattle.std.proofs.lemmas.Bool.{cases_lt}
@@ -23,7 +23,7 @@ use Rattle.sample_laws.proofs.MapCounts.{has_put, has_remove, length_put, length
 use Rattle.sample_laws.proofs.SampleNames.{name_begins, same_ranks, sample_line, first_lines}
 use Rattle.sample_laws.proofs.SamplePages.{page-length}
 
--- ---- one request more
+-- ---- one more request
 
 map_alone-push : (dir : List (List ℕ)) (m : List Pair) (lines : List RequestLine) (l : RequestLine)
     → map_alone dir m (lines ++ l ∷ []) ≡ map_behind dir (map_alone dir m lines) l.request

@@ -18,7 +18,7 @@ use Rattle.sample_laws.proofs.Summaries.{summaries, summary_is}
 use Rattle.sample_laws.proofs.SampleNames.{sample_apart, part_is, sample_line, first_lines}
 use Rattle.sample_laws.proofs.SampleDone.{Matches, matches}
 
--- the node slots that a client has where none are given
+-- the node slots that a client has if none are given
 abbrev slots_of : List (List RequestLine) → ℕ → ℕ
 slots_of parts client = default_slots (lines_of parts client)
 

@@ -1,4 +1,4 @@
--- The names of the generated session: those of a client begin with its prefix, and differ just where their numbers do.
+-- The names of the generated session: those of a client begin with its prefix, and differ exactly if their numbers do.
 use Rattle.std.proofs.Common.{◌≡◌, ℕ, zero, suc, ◌+◌, ◌*◌, ◌/◌, ◌%◌, ◌<◌, Bool, true, false, cond, List, [], ◌∷◌, ◌++◌, map, get_or, eqb, ◌==◌, codes, refl, sym, ap, ◌∙◌, subst, arith}
 use Rattle.std.specs.Fmt.{decimal}
 use Rattle.std.proofs.lemmas.Bool.{and_parts, eqb-true, eq-eqb, false_from_ne_true, false≢true}
@@ -89,7 +89,7 @@ numbers_from_names c i j below e =
 pub names_from_numbers : (c i j : ℕ) → sample_number i ≡ sample_number j → sample_name c i ≡ sample_name c j
 names_from_numbers c i j e = ap (λ (x : ℕ). codes "s" ++ decimal c ++ codes "/" ++ four_digits x) e
 
--- two names have one rank just where they have one number
+-- two names have one rank exactly if they have one number
 pub same_ranks : (dir : List (List ℕ)) (c i j : ℕ) → c < 10
     → IsRank dir (sample_name c i) (rank_of dir (sample_name c i)) → IsRank dir (sample_name c j) (rank_of dir (sample_name c j))
     → (rank_of dir (sample_name c i) == rank_of dir (sample_name c j)) ≡ (sample_number i == sample_number j)

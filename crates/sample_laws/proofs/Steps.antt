@@ -1,4 +1,4 @@
--- One answer more: its request has made one update of the client, or none; and so the client has at most as many
+-- One more answer: its request has made one update of the client, or none; so the client has at most as many
 -- updates as requests that may make one.
 use Rattle.std.proofs.Common.{◌≡◌, ℕ, zero, suc, ◌+◌, ◌≤◌, ◌⊎◌, Bool, true, false, cond, List, [], ◌∷◌, ◌++◌, length, take, eqb, refl, sym, ap, ◌∙◌, subst, arith, inl, inr, Option, Some, None}
 use Rattle.std.specs.List.{slice_get}
@@ -108,7 +108,7 @@ one_more : (b : Bool) (n : ℕ) → b ≡ true → n + 1 ≤ n + cond b 1 0
 one_more true n e = omega arith
 one_more false n e = cc
 
--- one answer's place more has at most one more update, and none where the request makes none
+-- the place of one more answer has at most one more update, and none if the request makes none
 step_counts : (s : Setting) (p q : ℕ) (a : Answered) → Stays s p q ⊎ Adds s p q a
     → length (own_upto s q) ≤ length (own_upto s p) + cond (is_update a.asked.request) 1 0
 step_counts s p q a (inl stays) = let same = ap (length {A = Update}) stays.same in omega arith
@@ -120,7 +120,7 @@ step_counts s p q a (inr adds) =
 updates_in-cons : (l : RequestLine) (lines : List RequestLine) → updates_in (l ∷ lines) ≡ cond (is_update l.request) 1 0 + updates_in lines
 updates_in-cons l lines = sum_by-cons (λ (k : RequestLine). cond (is_update k.request) 1 0) l lines
 
--- the requests that are left, behind one more
+-- the requests that are left, after one more
 pub made_next : (s : Setting) (earlier : List Answered) (a : Answered) (later : List Answered)
     → AreMadeBy s (earlier ++ a ∷ later) → AreMadeBy s ((earlier ++ a ∷ []) ++ later)
 made_next s earlier a later made = subst (AreMadeBy s) (sym (append_assoc earlier (a ∷ []) later)) made

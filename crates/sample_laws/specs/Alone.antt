@@ -14,27 +14,27 @@ use Rattle.bucket_terms.specs.Listing.{page_of, v1_page}
 use Rattle.bucket_terms.specs.RunParts.{head_answer}
 use Rattle.bucket_terms.specs.LegalRun.{RequestLine}
 
--- the rank of a name: how many names stand in front of it
+-- the rank of a name: how many names precede it
 abbrev pub rank_of : List (List ℕ) → List ℕ → ℕ
 rank_of dir name = prefix_len (λ other. not (pointwise nat_eq other name)) dir
 
 -- ---- one request
 
--- the map behind a request
+-- the map after a request
 abbrev pub map_behind : List (List ℕ) → List Pair → Request → List Pair
 map_behind dir m (Put name val) = map_put (rank_of dir name) val m
 map_behind dir m (PutNew name val) = cond (map_has (rank_of dir name) m) m (map_put (rank_of dir name) val m)
 map_behind dir m (Delete name) = map_remove (rank_of dir name) m
 map_behind dir m request = m
 
--- how many updates the request makes: a PUTNEW of a key that is there is none, and so is a removal of an absent key
+-- how many updates the request makes: a PUTNEW of a key that is there makes none, nor does a removal of an absent key
 abbrev pub updates_on : List (List ℕ) → List Pair → Request → ℕ
 updates_on dir m (Put name val) = 1
 updates_on dir m (PutNew name val) = cond (map_has (rank_of dir name) m) 0 1
 updates_on dir m (Delete name) = cond (map_has (rank_of dir name) m) 1 0
 updates_on dir m request = 0
 
--- what the request is answered on the map; a listing without a token
+-- the answer to the request on the map; a listing without a token
 abbrev pub reply_on : List (List ℕ) → List Pair → Request → Reply
 reply_on dir m (Put name val) = PutReply (map_has (rank_of dir name) m)
 reply_on dir m (PutNew name val) = cond (map_has (rank_of dir name) m) Exists (PutReply false)

@@ -15,7 +15,7 @@ use Rattle.sample_laws.specs.Totals.{summary_of, summary_alone}
 abbrev pub map_of : List Update → List Pair
 map_of updates = after updates (length updates)
 
--- at the place of each reply, the client's pairs are those that it has alone behind the request
+-- at the place of each reply, the client's pairs are those that it has alone after the request
 abbrev pub FindsAlone : List (List ℕ) → List ℕ → List Update → List Pair → List RequestLine → List Placed → Type 0
 FindsAlone dir prefix updates m [] [] = Unit {0}
 FindsAlone dir prefix updates m (l ∷ lines) (r ∷ replies) =
@@ -27,7 +27,7 @@ FindsAlone dir prefix updates m lines replies = ⊥
 pub record IsAsAlone (dir : List (List ℕ)) (prefix : List ℕ) (run : Run) (client : ℕ) (lines : List RequestLine) : Type 0 where
   -- updates on other names commute: its pairs are those of its own updates
   pub commutes : (t : ℕ) → own_pairs dir prefix (after run.updates t) ≡ map_of (updates_of client (take t run.updates))
-  -- where all updates from one place to another are of other clients, they stay as they are
+  -- if all updates from one place to another are of other clients, they stay as they are
   pub stays : (t later : ℕ) → t ≤ later
       → ((i : ℕ) (u : Update) → t ≤ i → i < later → slice_get run.updates i ≡ Some u → u.client ≢ client)
       → own_pairs dir prefix (after run.updates later) ≡ own_pairs dir prefix (after run.updates t)

@@ -1,6 +1,6 @@
 -- Helper: the headline does not rest on this file.
 -- Clients on names of their own: each client's names begin with a prefix, and no name of the directory begins with two
--- of these. A client's listings have just its prefix, without a token, and it has no NEXT.
+-- of these. A client's listings have exactly its prefix, without a token, and it has no NEXT.
 use Rattle.std.specs.Prelude.{◌≡◌, ℕ, ◌<◌, ◌==◌, ◌&&◌, Bool, IsTrue, nat_lt, List, [], length, filter, All}
 use Rattle.key_names.specs.Names.{Rises, IsRank, name_at, begins_with}
 use Rattle.key_map.specs.declared.pair.Pair.{Pair}

@@ -5,8 +5,8 @@ use Rattle.key_map.specs.KeyMap.{map_has, map_put, map_remove}
 use Rattle.bucket_terms.specs.declared.summary.Summary.{Summary}
 use Rattle.request_lines.specs.Sample.{sample_clients}
 
--- what a client has done: the map, whose keys are the numbers in its names, the entries that it was told, and its
--- updates
+-- what a client has done: the map, whose keys are the numbers in its names, the number of entries listed to it, and
+-- its updates
 pub record Done : Type 0 where
   pub pairs : List Pair
   pub listed : ℕ
@@ -38,7 +38,7 @@ sample_done (suc request) =
     else if request % 4 == 3 then done_list (sample_done request)
     else done_put request (sample_done request)
 
--- the sums over the clients, each of them alone: the four do the same, each on names of its own
+-- the sums over the clients, each of them alone: all four do the same, each on names of its own
 unfoldable pub sample_summary : ℕ → Summary
 sample_summary requests = record {
   keys = sample_clients * length (sample_done requests).pairs;

@@ -24,7 +24,7 @@ SampleAloneLaw =
     → ((c : ℕ) → c < length (sample_parts n) → All (λ (l : RequestLine). IsNamed dir l.request) (lines_of (sample_parts n) c))
     → summary_alone dir (sample_parts n) ≡ sample_summary n
 
--- in each legal run of the generated session over names that rise, where each client has one node slot more than
+-- in each legal run of the generated session over names that rise, where each client has one more node slot than
 -- requests that may make an update, the summary is the one that the number of requests gives
 abbrev pub SampleLaw : Type 0
 SampleLaw =
@@ -32,7 +32,7 @@ SampleLaw =
     → IsLegal dir (sample_parts n) (λ client. default_slots (lines_of (sample_parts n) client)) run
     → summary_of run ≡ sample_summary n
 
--- the same of a session that was read, of an input whose session is the generated one: the directory has its names
+-- the same of a session that was read from an input whose session is the generated one: the directory has its names
 abbrev pub SampleInputLaw : Type 0
 SampleInputLaw =
     (input : List ℕ) (n : ℕ) (session : Session) (dir : List (List ℕ)) (run : Run)

@@ -1,5 +1,5 @@
 -- Helper: the headline does not rest on this file.
--- The numbers of a summary: of a run, and of clients that are each alone.
+-- The numbers of a summary: of a run, and of clients each alone.
 use Rattle.std.specs.Prelude.{ℕ, List, [], length, sum_by}
 use Rattle.key_map.specs.History.{after}
 use Rattle.bucket_terms.specs.declared.reply.Reply.{Reply}

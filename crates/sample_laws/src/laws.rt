@@ -12,10 +12,10 @@ pub fn own_names()
     ensures summary { SummaryLaw }
 {}
 
-/// The generated session. In any legal run of it, where each client has one node slot more than requests that may make
-/// an update, the summary is the one that the number of requests gives. That one is the sums over the four clients of
-/// what each would have alone. It is the summary, too, where the session was read from an input whose session is the
-/// generated one.
+/// The generated session. In any legal run of it, where each client has one more node slot than requests that may make
+/// an update, the summary is the one that the number of requests gives, which is the sums over the four clients of
+/// what each would have alone. The summary is also this one where the session was read from an input whose session is
+/// the generated one.
 pub fn sample_session()
     ensures summary { SampleLaw }
     ensures alone { SampleAloneLaw }

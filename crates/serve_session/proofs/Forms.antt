@@ -1,4 +1,4 @@
--- The words are one form at most.
+-- The arguments have at most one form.
 use Rattle.std.proofs.Common.{◌≡◌, ℕ, ◌<◌, ◌^◌, true, List, [], ◌∷◌, ◌++◌, length, codes, Option, Some, None, inl, inr, refl, sym, ap, subst, ◌∙◌, arith}
 use Rattle.std.specs.Prelude.{MatchOption}
 use Rattle.std.specs.Fmt.{decimal}
@@ -28,7 +28,7 @@ one_number words m n first second =
     let digits : decimal m ≡ decimal n = cc in
     same_decimal m n (omega (arith, first.most)) (omega (arith, second.most)) digits
 
--- behind one beginning
+-- equal lists with the same beginning have the same rest
 append_same : (xs ys zs : List ℕ) → xs ++ ys ≡ xs ++ zs → ys ≡ zs
 append_same [] ys zs same = same
 append_same (x ∷ xs) ys zs same = let rest : xs ++ ys ≡ xs ++ zs = cc in append_same xs ys zs rest
@@ -67,7 +67,7 @@ abbrev third_byte : List ℕ → ℕ
 third_byte (a ∷ b ∷ c ∷ rest) = c
 third_byte others = 0
 
--- words have one of the two options of `run`
+-- the arguments do not have both options of `run`
 not_both_options : (words : List (List ℕ)) (m n : ℕ) → HasOption (codes "run") (codes "--slots") words m → HasOption (codes "run") (codes "--pool") words n → ⊥
 not_both_options words m n first second =
     elim first.spelled [
@@ -105,7 +105,7 @@ one_check words None (Some n) first second = absurd (not_alone (codes "check") (
 one_check words (Some m) None first second = absurd (not_alone (codes "check") (codes "--slots") words m second first)
 one_check words (Some m) (Some n) first second = ap Some (same_number (codes "check") (codes "--slots") words m n first second)
 
--- the forms `run` that were found are those of the words
+-- the forms `run` that were found are those of the arguments
 pub run_found : (words : List (List ℕ)) (slots given : Option ℕ) → given ≡ slots → IsForm words (Run slots) → IsRun words given
 run_found words slots given same is = subst (IsRun words) (sym same) (found slots is)
   where
@@ -120,7 +120,7 @@ pub check_found : (words : List (List ℕ)) (slots : Option ℕ) → IsForm word
 check_found words None is = is
 check_found words (Some n) is = is
 
--- what holds of an input with the slots that were found holds of it with those that the words name
+-- what holds of an input with the slots that were found holds of it with those that the arguments name
 pub input_named : (words : List (List ℕ)) (a b : Option ℕ) (before after : Option (List ℕ)) (P : LegalRun → List ℕ → Type 0) → IsRun words a → IsRun words b
     → HoldsOfInput a before after P → HoldsOfInput b before after P
 input_named words a b before after P first second = subst (λ (n : Option ℕ). HoldsOfInput n before after P) (one_run words a b first second)
@@ -129,13 +129,13 @@ pub check_named : (words : List (List ℕ)) (a b : Option ℕ) (before after : O
     → HasVerdict a before after verdict → HasVerdict b before after verdict
 check_named words a b before after verdict first second = subst (λ (n : Option ℕ). HasVerdict n before after verdict) (one_check words a b first second)
 
--- a number of slots that the words name can be given
+-- a number of slots that the arguments name can be given
 pub namable : (words : List (List ℕ)) (slots : Option ℕ) → IsRun words slots → IsNamable slots
 namable words None is = tt
 namable words (Some n) (inl slots) = (slots.some, slots.most)
 namable words (Some n) (inr pool) = (pool.some, pool.most)
 
--- the first word is that of one verb
+-- the first argument is that of one verb
 abbrev first_word : List (List ℕ) → List ℕ
 first_word [] = []
 first_word (w ∷ ws) = w
@@ -170,7 +170,7 @@ no_run_checks words a b run check =
     let same : codes "run" ≡ codes "check" = sym (run_first words a run) ∙ check_first words b check in
     absurd cc
 
--- what is found is a form of the words, and where nothing is found they have none
+-- what is found is a form of the arguments, and if nothing is found they have none
 pub found_form : (words : List (List ℕ)) (found : Option Form) (form : Form) → found ≡ Some form
     → MatchOption found ((f : Form) → ¬ (IsForm words f)) (IsForm words) → IsForm words form
 found_form words found form is all = subst (λ (o : Option Form). MatchOption o ((f : Form) → ¬ (IsForm words f)) (IsForm words)) is all
@@ -179,7 +179,7 @@ pub found_none : (words : List (List ℕ)) (found : Option Form) (form : Form) �
     → MatchOption found ((f : Form) → ¬ (IsForm words f)) (IsForm words) → IsForm words form → ⊥
 found_none words found form is all = subst (λ (o : Option Form). MatchOption o ((f : Form) → ¬ (IsForm words f)) (IsForm words)) is all form
 
--- where no form is the words', they are none
+-- if no form is that of the arguments, they have none
 pub no_form : (words : List (List ℕ)) → ((form : Form) → ¬ (IsForm words form)) → ¬ (HasForm words)
 no_form words none (inl (None, run)) = none (Run None) run
 no_form words none (inl (Some n, inl slots)) = none (Run (Some n)) slots

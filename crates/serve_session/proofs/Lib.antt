@@ -11,5 +11,5 @@ pub mod VerdictLines
 pub mod OneText
 -- The verdict on a text is determined.
 pub mod OneVerdict
--- What the words of the promise rule out.
+-- What the promise rules out.
 pub mod ServedLaws

@@ -18,7 +18,7 @@ use Rattle.serve_session.specs.Texts.{all_reply_lines, AddsClients}
 
 -- ---- the replies of the clients
 
--- the replies of the first clients come behind the pieces
+-- the replies of the first clients come after the pieces
 pub record AddsFirst (old : List Piece) (lists : List (List Placed)) (count : ℕ) (new : List Piece) : Type 0 where
   pub text : (dir : List (List ℕ)) (records : List Record) → pieces_text dir records new ≡ pieces_text dir records old ++ all_reply_lines dir records (take count lists)
   pub in_range : (dir : List (List ℕ)) (records : List Record) → All (IsPieceOf dir records) old

@@ -25,7 +25,7 @@ one_if b = cond b 1 0
 abbrev one_unless : Bool → ℕ
 one_unless b = cond b 0 1
 
--- one request more
+-- one more request
 updates_more : (n c i : ℕ) → updates_in (lines_to n c (suc i)) ≡ updates_in (lines_to n c i) + one_if (is_update (request_line (sample_asked n c i)).request)
 updates_more n c i =
     ap updates_in (map_push request_line (sample_requests n c i) (sample_asked n c i))
@@ -59,7 +59,7 @@ size_is n c = ap (size_for None) (updates_first n c n)
 abbrev four_of : PassSize → List PassSize
 four_of size = size ∷ size ∷ size ∷ size ∷ []
 
--- each client's pass has the size for so many
+-- each client's pass has the size for this many
 pub sizes_are : (n updates : ℕ) → updates ≡ sample_updates n → four_of (size_for None updates) ≡ sample_sizes n
 sizes_are n updates counted = rw (counted, size_is n 0, size_is n 1, size_is n 2, size_is n 3) refl
 

@@ -1,4 +1,4 @@
--- What the words of the promise rule out.
+-- What the promise rules out.
 use Rattle.std.proofs.Common.{◌≡◌, ℕ, ◌+◌, ◌<◌, ◌≤◌, List, ◌++◌, length, take, drop, Option, Some, None, Ok, sym, ap, ◌∙◌, arith, append_assoc}
 use Rattle.std.proofs.lemmas.List.{length-append, take-append-drop}
 use Rattle.outside_io.specs.Streams.{Gave, IsOver}

@@ -1,4 +1,4 @@
--- From the run of the clients to the run of the session and of the input, and the words.
+-- From the run of the clients to the run of the session and of the input, and the arguments.
 use Rattle.std.proofs.Common.{◌≡◌, ℕ, ◌<◌, ◌≤◌, ◌==◌, length, map, List, [], ◌∷◌, Option, Bool, true, refl, sym, ap, ◌∙◌, subst, arith, nat_eq}
 use Rattle.std.specs.List.{slice_index_or}
 use Rattle.std.specs.Cmp.Lexicographic.{pointwise, bytes_decides}
@@ -92,7 +92,7 @@ input_first named before after P Q both = record {
   };
 }
 
--- ---- the words
+-- ---- the arguments
 
 one_word : (words : List (List ℕ)) (word : List ℕ) → 1 ≤ length words → length words < 2 → word ≡ slice_index_or words 0 word → words ≡ word ∷ []
 one_word [] word low high is = absurd (omega arith)

@@ -27,7 +27,7 @@ use Rattle.key_names.specs.Names.{name_at}
 use Rattle.answer_text.specs.InRange.{HasRecord, IsPageOf, IsReplyOf}
 use Rattle.client_run.specs.Listing.{HasPageInRange}
 
--- the change puts, where it puts, a value below the count
+-- the change puts, if it puts, a value below the count
 abbrev pub PutsBelow : ℕ → Change → Type 0
 PutsBelow count (PutVal val) = val < count
 PutsBelow count Remove = Unit {0}
@@ -171,7 +171,7 @@ module _ (dir : List (List ℕ)) (records : List Record) where
         (replies_recorded (earlier ++ record { asked = l; placed = p } ∷ []) lines replies answered.1 (All-tail (λ (q : Placed). HasPageInRange dir q.reply) p replies pages))
     replies_recorded earlier lines replies answered pages = absurd answered
 
--- ---- the updates, by the requests that have made them
+-- ---- the updates, by the requests that made them
 
 module _ (dir : List (List ℕ)) (count : ℕ) where
   change_below : (u : Update) (request : Request) (line : ℕ) → IsChangeOf dir u request → HasRecordBelow count (record { line = line; request = request })

@@ -1,3 +1,4 @@
+-- The definitions and laws of serving a session.
 pub mod Statuses
 pub mod Served
 pub mod Taken

@@ -10,7 +10,7 @@ use Rattle.request_lines.specs.Input.{refusal_of}
 use Rattle.request_lines.specs.CheckInput.{check_refusal}
 use Rattle.serve_session.specs.Served.{HoldsOfInput, HasVerdict, IsRunOf, WasRefused}
 
--- from one input, where it has one client, whose node slots are not named, and after one text that was taken before,
+-- from one input, if it has one client, whose node slots are not named, and after one text that was taken before,
 -- one text is taken
 abbrev pub OneTextLaw : Type 0
 OneTextLaw =
@@ -19,13 +19,13 @@ OneTextLaw =
     → HoldsOfInput None (Some input) after' (λ (run : Run) (text : List ℕ). IsTaken (Some taken) (Some y) text)
     → length first.session.clients ≡ 1 → x ≡ y
 
--- an input has one refusal at most, by the words of `run` and by those of `check`
+-- an input has one refusal at most, both in the form `run` and in the form `check`
 abbrev pub OneRefusalLaw : Type 0
 OneRefusalLaw =
     (refusal : List ℕ → Option InputError) (input : List ℕ) (after after' : Option (List ℕ)) (e f : InputError)
     → WasRefused refusal (Some input) after e → WasRefused refusal (Some input) after' f → e ≡ f
 
--- and none where it has a session with a legal run
+-- and none if it has a session with a legal run
 abbrev pub RefusedOrServedLaw : Type 0
 RefusedOrServedLaw =
     (named : Option ℕ) (input : List ℕ) (after after' : Option (List ℕ)) (e : InputError)
@@ -43,7 +43,7 @@ OneVerdictLaw =
     (named : Option ℕ) (input : List ℕ) (after after' : Option (List ℕ)) (v w : Verdict)
     → HasVerdict named (Some input) after v → HasVerdict named (Some input) after' w → v ≡ w
 
--- and none where the input is refused
+-- and none if the input is refused
 abbrev pub RefusedOrCheckedLaw : Type 0
 RefusedOrCheckedLaw =
     (named : Option ℕ) (input : List ℕ) (after after' : Option (List ℕ)) (e : InputError) (v : Verdict)

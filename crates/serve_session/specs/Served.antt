@@ -44,7 +44,7 @@ pub record HoldsOfInput (named : Option ℕ) (before after : Option (List ℕ)) 
   pub of_input : IsSessionOf input session
   pub text : HoldsOfDirectory session (λ dir. HoldsOfRun named dir session P)
 
--- this is true of one legal run of the generated session with so many requests of each client
+-- this is true of one legal run of the generated session with this many requests of each client
 pub record HoldsOfSample (requests : ℕ) (P : Run → Type 0) : Type 0 where
   pub session : Session
   pub of_input : IsSessionOf (sample_text requests) session
@@ -54,7 +54,7 @@ pub record HoldsOfSample (requests : ℕ) (P : Run → Type 0) : Type 0 where
 abbrev pub IsRunOf : (old new : ℕ) → List (List Placed) → Run → Type 0
 IsRunOf old new replied run = (new ≡ one_more old) × (run.replies ≡ replied)
 
--- the verdict on a text: it is legal exactly where it is that of a legal run, and a line is wrong exactly where it is
+-- the verdict on a text: it is legal exactly if it is that of a legal run, and a line is wrong exactly if it is
 -- the first wrong one
 pub record IsVerdictOn (named : Option ℕ) (dir : List (List ℕ)) (session : Session) (text : List ℕ) (verdict : Verdict) : Type 0 where
   pub legal : (verdict ≡ Legal) ↔ HoldsOfRun named dir session (λ run written. text ≡ written)

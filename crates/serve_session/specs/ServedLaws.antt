@@ -1,5 +1,5 @@
 -- Helper: the headline does not rest on this file.
--- What the words of the promise rule out: an input above the limit was not read, what was taken of a text can be
+-- What the promise rules out: an input above the limit was not read, what was taken of a text can be
 -- completed to it, and a run of the generated session has its summary.
 use Rattle.std.specs.Prelude.{◌≡◌, ℕ, ◌≤◌, List, ◌++◌, length, Option, Some}
 use Rattle.outside_io.specs.Streams.{Gave, IsOver, IsTaken, TakesStart}
@@ -19,7 +19,7 @@ abbrev pub TooLongLaw : Type 0
 TooLongLaw =
     (before : List ℕ) (now after : Option (List ℕ)) (input : List ℕ) → Gave (Some before) now (IsOver most_input_bytes) → ¬ (HasRead (Some before) after input)
 
--- where a start of a text was taken, the rest of it can be taken after
+-- if a start of a text was taken, the rest of it can be taken afterwards
 abbrev pub StartLaw : Type 0
 StartLaw = (before now text : List ℕ) → TakesStart (Some before) (Some now) text → (rest : List ℕ) × IsTaken (Some now) (Some (before ++ text)) rest
 

@@ -15,7 +15,7 @@ exit_code WriteFault = 6
 exit_code NoMemory = 7
 exit_code (Illegal line) = 8
 
--- behind the program's name, a colon and a space
+-- after the program's name, a colon and a space
 abbrev pub status_text : Status → List ℕ
 status_text Done = codes "done"
 status_text BadWords = codes "bad words"

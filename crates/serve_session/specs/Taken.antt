@@ -20,7 +20,7 @@ IsVerdictOf named session text verdict = HoldsOfDirectory session (λ dir. IsVer
 abbrev pub TookStart : {K : Type 0} → (K → Option (List ℕ)) → K → K → Run → List ℕ → Type 0
 TookStart taken sink sink' run text = TakesStart (taken sink) (taken sink') text
 
--- the sink took the whole text, and the run is the runner's; where there is no client, there are no replies
+-- the sink took the whole text, and the run is the runner's; if there is no client, there are no replies
 abbrev pub TookBy : {K R : Type 0} → (K → Option (List ℕ)) → K → K → (R → ℕ) → (R → List (List Placed)) → R → R → Run → List ℕ → Type 0
 TookBy taken sink sink' runs replied runner runner' run text =
     IsTaken (taken sink) (taken sink') text × ((run.replies ≡ []) ⊎ IsRunOf (runs runner) (runs runner') (replied runner') run)

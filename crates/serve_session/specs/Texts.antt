@@ -23,7 +23,7 @@ text_of_run dir records updates replies = session_text dir records (record { upd
 abbrev pub all_reply_lines : List (List ℕ) → List Record → List (List Placed) → List ℕ
 all_reply_lines dir records lists = flat_map (reply_lines dir records) lists
 
--- the replies of these clients come behind the pieces
+-- the replies of these clients come after the pieces
 pub record AddsClients (old : List Piece) (lists : List (List Placed)) (new : List Piece) : Type 0 where
   pub text : (dir : List (List ℕ)) (records : List Record) → pieces_text dir records new ≡ pieces_text dir records old ++ all_reply_lines dir records lists
   pub in_range : (dir : List (List ℕ)) (records : List Record) → All (IsPieceOf dir records) old

@@ -47,7 +47,7 @@ pub(crate) fn serve_input<
     ensures bad_input { (e : InputError) → result ≡ Status.BadInput e → WasRefused refusal_of (S.rest source.old) (S.rest source.new) e }
     ensures too_long { result ≡ Status.TooLong → Gave (S.rest source.old) (S.rest source.new) (IsOver most_input_bytes) }
 
-    // Faults and want of memory.
+    // Faults and out of memory.
     ensures read_fault { result ≡ Status.ReadFault → Gave (S.rest source.old) (S.rest source.new) (λ n. n ≤ most_input_bytes) }
     ensures read_fault_only_where_faulted { result ≡ Status.ReadFault → S.faults source.new ≡ one_more (S.faults source.old) }
     ensures no_other_read_fault { ¬ (result ≡ Status.ReadFault) → S.faults source.new ≡ S.faults source.old }

@@ -1,10 +1,10 @@
-// What the promise of `serve` determines, and what its words rule out. The calls do nothing: their clauses are what is
+// What the promise of `serve` determines, and what it rules out. The calls do nothing: their clauses are what is
 // proved.
 ghost use Rattle.serve_session.specs.OneText.{OneTextLaw, OneRefusalLaw, RefusedOrServedLaw, RunnersRunLaw, OneVerdictLaw, RefusedOrCheckedLaw};
 ghost use Rattle.serve_session.specs.ServedLaws.{WithinLimitLaw, TooLongLaw, StartLaw, SampleRunLaw};
 
-/// The text of an input of one client is determined: whatever ran, and in whatever schedule, from one input one text is
-/// taken. An input has one refusal at most, and one that is refused is not served. A run that has replies has those of
+/// The text of an input of one client is determined: whatever ran, and in whatever schedule, one input gives one text.
+/// An input has one refusal at most, and one that is refused is not served. A run that has replies has those of
 /// the runner.
 pub fn one_text()
     ensures text { OneTextLaw }
@@ -19,7 +19,7 @@ pub fn one_verdict()
     ensures or_checked { RefusedOrCheckedLaw }
 {}
 
-/// An input that was read to its end is within the limit, and one that is too long was not read to its end. Where a
+/// An input that was read to its end is within the limit, and one that is too long was not read to its end. If a
 /// start of a text was taken, the rest can be taken after it. A run of the generated session has its summary.
 pub fn served()
     ensures within { WithinLimitLaw }

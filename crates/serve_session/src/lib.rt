@@ -1,7 +1,7 @@
-//! The whole of the program but for the real input and output: reads the words and the input, has the clients of the
-//! session run over one shared index, and writes the answers, the journal of updates and their number as lines of JSON;
+//! The whole program except the real input and output: reads the arguments and the input, runs the clients of the
+//! session over one shared index, and writes the answers, the journal of updates and their number as lines of JSON;
 //! or runs a generated session, and writes a line of numbers; or checks a written text. The call is `serve`, and its
-//! clauses say what a run has read and written. The layer above hands it the input, the output and what runs the
+//! clauses say what a run has read and written. The layer above gives it the input, the output and the runner of the
 //! clients.
 #![tactic(auto)]
 

@@ -51,7 +51,7 @@ pub(crate) fn serve_sample<K: Sink, G: Gate + Sync, R: Runner<G>, Rt: Threads + 
     }
 }
 
-// The same, and why it ended before its end.
+// The same, and why it ended early.
 #[tactic(auto, using(crate::proofs::Sampled::sampled))]
 fn run_sample<K: Sink, G: Gate + Sync, R: Runner<G>, Rt: Threads + Wait + Sync>(
     rt: &Rt,
@@ -85,7 +85,7 @@ struct Made {
     keys: Vec<PassKey>,
 }
 
-// The session and its index, which are made at once, where a thread can be started.
+// The session and its index, which are made concurrently, if a thread can be started.
 fn made_beside<Rt: Threads + Sync>(rt: &Rt, alloc: Global, n: u32) -> Result<Made, NoMemory>
     requires some { 0 < n }
     requires most { n ≤ most_sample_requests }
@@ -112,7 +112,8 @@ fn made_beside<Rt: Threads + Sync>(rt: &Rt, alloc: Global, n: u32) -> Result<Mad
     })
 }
 
-// The size of the pass of each client: a call for each PUT and DELETE, one node slot more, and four entry slots for each.
+// The size of the pass of each client: a call for each PUT and DELETE, one node slot more, and four entry slots for
+// each node slot.
 fn size_of_pass(n: u32) -> PassSize
     requires most { n ≤ most_sample_requests }
     ensures sizes { result ∷ result ∷ result ∷ result ∷ [] ≡ sample_sizes n }
@@ -131,7 +132,7 @@ fn size_of_pass(n: u32) -> PassSize
     }
 }
 
-// Runs the session, which is the generated one: the summary of its run.
+// Runs the generated session: the summary of its run.
 fn run_summed<G: Gate + Sync, R: Runner<G>, Rt: Threads + Wait + Sync>(
     rt: &Rt,
     alloc: Global,

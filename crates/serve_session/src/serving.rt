@@ -1,4 +1,4 @@
-// The whole of the program but for the real input and output.
+// The whole program except the real input and output.
 ghost use Rattle.std.specs.Prelude.{◌≡◌, ◌⊎◌, ◌≤◌, ℕ, [], Option};
 ghost use Rattle.outside_io.specs.Streams.{one_more, Gave, IsOver, IsTaken, TakesStart};
 ghost use Rattle.command_words.specs.Words.{IsRun, IsCheck, IsSample, HasForm};
@@ -24,18 +24,19 @@ use std::alloc::Global;
 use std::sync::Wait;
 use std::thread::Threads;
 
-/// Does what the words ask, which are those after the program's name. The forms `run` read a session, run its clients
-/// over one shared index and write its text; the form `sample` runs the generated session and writes its summary. The
-/// forms `check` read a session and a written text, and write whether the text is that of a legal run of the session.
-/// With `--slots N` each client of the session has N node slots, else one more than it has PUT, PUTNEW and DELETE
-/// lines. With `run --pool N` it has N too, and clients hand one another those that they have to spare. The runner runs
-/// the clients. The gate is told of each request before and after it is answered. After `Done` the text of one legal
-/// run of the input's session was written, or the line of the summary, or of the verdict that a text is legal, and
-/// after `Illegal` that of the verdict which names its first wrong line; after `WriteFault` a start of such a text or
-/// line; after `NoMemory` nothing or a start of one. Each other end comes before anything is written.
+/// Does what the arguments ask; they are those after the program's name. The forms `run` read a session, run its
+/// clients over one shared index and write its text; the form `sample` runs the generated session and writes its
+/// summary. The forms `check` read a session and a written text, and write whether the text is that of a legal run of
+/// the session. With `--slots N` each client of the session has N node slots, otherwise one more than it has PUT,
+/// PUTNEW and DELETE lines. With `run --pool N` it has N too, and clients hand one another those that they have to
+/// spare. The runner runs the clients. The gate is notified of each request before and after it is answered. After
+/// `Done` the text of one legal run of the input's session was written, or the line of the summary, or of the verdict
+/// that a text is legal, and after `Illegal` that of the verdict which names its first wrong line; after `WriteFault` a
+/// start of such a text or line; after `NoMemory` nothing or a start of one. Each other end comes before anything is
+/// written.
 ///
 /// ```
-/// // with the one word `run`
+/// // with the single argument `run`
 /// let mut source = MemSource::new(b"CLIENT\nHEAD a\n".to_vec(alloc)?);
 /// let mut sink = MemSink::with_room(alloc, 1000)?;
 /// let status = serve(&rt, alloc, &words, &mut source, &mut sink, &OpenGate, &mut Threaded::new());
@@ -51,7 +52,7 @@ pub fn serve<S: Source, K: Sink, G: Gate + Sync, R: Runner<G>, Rt: Threads + Wai
     gate: &G,
     runner: &mut R,
 ) -> Status
-    // A run that ends: one legal run of the input's session, and exactly its text. The run is the runner's; where there
+    // A run that ends: one legal run of the input's session, and exactly its text. The run is the runner's; if there
     // is no client, there are no replies.
     ensures headline { (slots : Option ℕ) → IsRun words.now slots → result ≡ IsDone → HoldsOfInput slots (S.rest source.old) (S.rest source.new) (λ run text. IsTaken (K.taken sink.old) (K.taken sink.new) text) }
     ensures runner { (slots : Option ℕ) → IsRun words.now slots → result ≡ IsDone → HoldsOfInput slots (S.rest source.old) (S.rest source.new) (λ run text. IsTaken (K.taken sink.old) (K.taken sink.new) text × ((run.replies ≡ []) ⊎ IsRunOf (R.runs runner.old) (R.runs runner.new) (R.replied runner.new) run)) }
@@ -66,7 +67,7 @@ pub fn serve<S: Source, K: Sink, G: Gate + Sync, R: Runner<G>, Rt: Threads + Wai
     ensures check_wrong { (slots : Option ℕ) → (line : ℕ) → IsCheck words.now slots → result ≡ Status.Illegal line → HasVerdict slots (S.rest source.old) (S.rest source.new) (IsWrong line) × IsTaken (K.taken sink.old) (K.taken sink.new) (verdict_text (IsWrong line)) }
     ensures wrong_only_where_checked { (line : ℕ) → result ≡ Status.Illegal line → (slots : Option ℕ) × IsCheck words.now slots }
 
-    // An end before anything is written: the words, the input or the source are why.
+    // An end before anything is written: the arguments, the input or the source are the cause.
     ensures bad_words { result ≡ HasBadWords → ¬ (HasForm words.now) }
     ensures no_form { ¬ (HasForm words.now) → (result ≡ HasBadWords) ⊎ (result ≡ Status.NoMemory) }
     ensures nothing_read { ((slots : Option ℕ) → ¬ (IsRun words.now slots)) → ((slots : Option ℕ) → ¬ (IsCheck words.now slots)) → source.new ≡ source.old }
@@ -76,7 +77,7 @@ pub fn serve<S: Source, K: Sink, G: Gate + Sync, R: Runner<G>, Rt: Threads + Wai
     ensures check_bad_input { (slots : Option ℕ) → (e : InputError) → IsCheck words.now slots → result ≡ Status.BadInput e → WasRefused check_refusal (S.rest source.old) (S.rest source.new) e }
     ensures too_long { result ≡ Status.TooLong → Gave (S.rest source.old) (S.rest source.new) (IsOver most_input_bytes) }
 
-    // Faults and want of memory: a fault is told exactly where one was counted, and what was taken is a start of the
+    // Faults and out of memory: a fault is reported exactly if one was counted, and what was taken is a start of the
     // text.
     ensures read_fault { result ≡ Status.ReadFault → Gave (S.rest source.old) (S.rest source.new) (λ n. n ≤ most_input_bytes) }
     ensures read_fault_only_where_faulted { result ≡ Status.ReadFault → S.faults source.new ≡ one_more (S.faults source.old) }

@@ -5,7 +5,7 @@ ghost use Rattle.serve_session.specs.Statuses.{exit_code};
 use request_lines::InputError;
 use std::fmt;
 
-/// How a call of `serve` ended. Shown as the line on standard error has it, behind the program's name: `status_text` of
+/// How a call of `serve` ended. Shown as the line on standard error has it, after the program's name: `status_text` of
 /// `specs/Statuses.antt`.
 ///
 /// ```
@@ -17,7 +17,7 @@ use std::fmt;
 pub enum Status {
     /// The input was read to its end, and the whole text was taken. A text that was checked is legal.
     Done,
-    /// The words are no form of the program. Nothing was read or written.
+    /// The arguments are no form of the program. Nothing was read or written.
     BadWords,
     /// The input is refused at this line: by the grammar, or because the text that is to be checked is missing. Nothing
     /// was written.
@@ -28,7 +28,7 @@ pub enum Status {
     ReadFault,
     /// The output failed. A start of the text was written.
     WriteFault,
-    /// Memory was wanted. Nothing or a start of the text was written.
+    /// Out of memory. Nothing or a start of the text was written.
     NoMemory,
     /// The checked text is that of no legal run: this is its first wrong line. The whole line of the verdict was
     /// written.

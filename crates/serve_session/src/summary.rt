@@ -23,7 +23,7 @@ pub fn summary_line(alloc: Global, summary: &Summary) -> Result<Text, NoMemory>
     ensures text { IfOk result (λ line. line ≡ summary_text summary.now) }
     ensures order { StandInOrder (summary_members summary.now) }
 {
-    // Writing to memory fails for want of memory alone.
+    // Writing to memory fails only when out of memory.
     let Ok(mut line) = serde_json::to_string(alloc, &Shown { summary: *summary }) else {
         return Err(NoMemory);
     };

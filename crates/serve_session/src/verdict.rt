@@ -21,7 +21,7 @@ pub fn verdict_line(alloc: Global, verdict: Verdict) -> Result<Text, NoMemory>
     ensures text { IfOk result (λ line. line ≡ verdict_text verdict) }
     ensures order { StandInOrder (verdict_members verdict) }
 {
-    // Writing to memory fails for want of memory alone.
+    // Writing to memory fails only when out of memory.
     let Ok(mut line) = serde_json::to_string(alloc, &Shown { verdict }) else {
         return Err(NoMemory);
     };

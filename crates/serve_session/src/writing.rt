@@ -61,7 +61,7 @@ fn add_clients<'a, G: Gate + Sync, R: Runner<G>>(
     Ok(())
 }
 
-/// Writes the last line, which tells the number of updates.
+/// Writes the last line, which states the number of updates.
 pub(crate) fn write_last<K: Sink>(alloc: Global, sink: &mut K, updates: usize) -> Result<(), Stop>
     ensures taken { OnOk result (IsTaken (K.taken sink.old) (K.taken sink.new) (line_of (last_data updates))) }
     ensures start { (stop : Ended) → IsErrOf result stop → TakesStart (K.taken sink.old) (K.taken sink.new) (line_of (last_data updates)) }

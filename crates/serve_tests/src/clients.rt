@@ -10,8 +10,8 @@ use std::thread::Threads;
 
 const CLIENTS: u32 = 32;
 
-// Two clients, and their one text. No contract tells these to the tests, so that they are not computed when those are
-// checked.
+// Two clients, and their one text. No contract gives these to the tests, so that they are not computed when the tests
+// are checked.
 fn two_clients() -> &'static str {
     "CLIENT\nHEAD b\nCLIENT\nPUT b 2 e2 20\n"
 }
@@ -24,8 +24,8 @@ fn behind_the_second() -> &'static str {
 }
 
 // What the first client asks for is put by the second one alone, and the gate holds the first until that is answered. A
-// runner that runs one client after another never lets client 1 begin; and where the gate is told of another client, of
-// another line, or of an answer that is not made, client 0 may look too early.
+// runner that runs one client after another never lets client 1 begin; and if the gate is given another client, another
+// line, or an answer that is not made, client 0 may look too early.
 #[test]
 fn clients_run_at_once(rt: HostRuntime) -> Result<(), Fail> {
     let input = two_clients().as_bytes();
@@ -36,7 +36,7 @@ fn clients_run_at_once(rt: HostRuntime) -> Result<(), Fail> {
     Ok(())
 }
 
-// What the gate sees of so many clients with one request each, where none begins before all have come.
+// What the gate sees of so many clients with one request each, of which none begins before all have come.
 fn all_at_once<Rt: Threads + Wait + Sync>(
     rt: &Rt,
     alloc: Global,
@@ -48,7 +48,7 @@ fn all_at_once<Rt: Threads + Wait + Sync>(
 }
 
 // As many clients as a session may have. A runner that has fewer of them at work at once lets none of them begin, and
-// one that does not tell the gate lets none come.
+// one that does not report to the gate lets none come.
 #[test]
 fn all_clients_are_at_work_at_once(rt: HostRuntime) -> Result<(), Fail> {
     let seen = all_at_once(&rt, rt.alloc(), CLIENTS)?;
@@ -60,7 +60,7 @@ fn summary_of_seven() -> &'static str {
     "{\"Keys\":16,\"Listed\":8,\"Requests\":28,\"Updates\":16}\n"
 }
 
-// The gate is told of each request of each client once before and once after it is answered, with the same line.
+// Each request of each client is reported to the gate once before and once after it is answered, with the same line.
 #[test]
 fn the_gate_is_told_of_each_request(rt: HostRuntime) -> Result<(), Fail> {
     let words = ["sample", "7"];

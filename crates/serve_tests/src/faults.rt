@@ -1,5 +1,5 @@
-// Each call of a source and of a sink that fails, one at a time, through the top call. Row 1 of tests/rows.txt has the
-// same session.
+// Each call of a source and of a sink that fails, one at a time, through the top call. Row 1 of tests/program/rows.txt
+// has the same session.
 ghost use Rattle.std.specs.Prelude.{◌<◌};
 
 use crate::served::served;
@@ -12,7 +12,7 @@ use std::sync::Wait;
 use std::test::Fail;
 use std::thread::Threads;
 
-// The session, and its text. No contract tells them to the tests, which need not be computed when they are checked.
+// The session, and its text. No contract gives them to the tests, so that they are not computed when these are checked.
 fn session() -> &'static str {
     "CLIENT\nPUT b 2 e2 20\nPUT a 1 e1 10\nPUT b 3 e3 30\nLIST\n"
 }
@@ -30,7 +30,7 @@ fn whole_text() -> &'static str {
     {\"Updates\":3}\n"
 }
 
-// So many bytes of the text.
+// The first `length` bytes of the text.
 fn start_of_text(length: usize) -> Result<&'static [u8], Fail> {
     Ok(whole_text().as_bytes().get(..length).ok_or("a short text")?)
 }
@@ -58,7 +58,7 @@ fn ended<K: Sink, Rt: Threads + Wait + Sync>(
     )
 }
 
-// Whether the session ends so and just so many bytes of its text are taken, where this read fails.
+// Whether the session ends with this status and exactly so many bytes of its text are taken, if this read fails.
 fn ends_at_read<Rt: Threads + Wait + Sync>(
     rt: &Rt,
     alloc: Global,
@@ -100,7 +100,7 @@ fn failing_sink(alloc: Global, in_steps: bool, call: u64) -> Result<FailingSink,
     }
 }
 
-// Whether it ends with a write fault and just so many bytes of its text are taken, where this write fails.
+// Whether the session ends with a write fault and exactly so many bytes of its text are taken, if this write fails.
 fn stops_at_write<Rt: Threads + Wait + Sync>(
     rt: &Rt,
     alloc: Global,
@@ -113,7 +113,7 @@ fn stops_at_write<Rt: Threads + Wait + Sync>(
     Ok(status == Status::WriteFault && sink.taken() == start_of_text(taken)?)
 }
 
-// The first write whose fault does not end the session with just what stands in front of it taken.
+// The first write whose fault does not end the session with exactly the text before it taken.
 fn first_wrong_write<Rt: Threads + Wait + Sync>(
     rt: &Rt,
     alloc: Global,
@@ -140,14 +140,14 @@ fn a_read_that_fails_is_a_read_fault(rt: HostRuntime) -> Result<(), Fail> {
     Ok(())
 }
 
-// Each line is offered whole, so a sink without a step has taken the lines in front of the write that fails.
+// Each line is offered whole, so a sink without a step has taken the lines before the write that fails.
 #[test]
 fn a_line_that_fails_is_a_write_fault(rt: HostRuntime) -> Result<(), Fail> {
     assert_eq!(rt; first_wrong_write(&rt, rt.alloc(), false)?, None);
     Ok(())
 }
 
-// A sink that takes 7 bytes at a time has taken the steps in front of the write that fails.
+// A sink that takes 7 bytes at a time has taken the steps before the write that fails.
 #[test]
 fn a_step_that_fails_is_a_write_fault(rt: HostRuntime) -> Result<(), Fail> {
     assert_eq!(rt; first_wrong_write(&rt, rt.alloc(), true)?, None);

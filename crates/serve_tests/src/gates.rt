@@ -39,8 +39,8 @@ struct Watch {
     come: AtomicU32,
     answered: AtomicU32,
     given_up: AtomicBool,
-    // Whether it was told of an answer to another line than the one that came last from its client, or of a line that
-    // came before that was answered, or of a client that the session does not have.
+    // Whether an answer to another line than the one that came last from its client was reported, or a line that came
+    // before that was answered, or a client that the session does not have.
     astray: AtomicBool,
     // For each client the line that has come and is not answered, or 0.
     at_work: Vec<AtomicU32>,
@@ -105,7 +105,7 @@ impl Watch {
     }
 }
 
-// Whether this line of a client, whose last answered one is told, is still to be answered.
+// Whether this line of a client, whose last answered line is given, is still to be answered.
 fn is_before(answered: &AtomicU32, line: u32) -> bool {
     answered.load(Ordering::SeqCst) < line
 }
@@ -176,7 +176,7 @@ impl Runner<Watch> for Threaded {
 #[derive(Clone, Copy, Debug, PartialEq, Eq)]
 pub(super) struct Seen {
     status: Status,
-    // Whether the text is the wanted one, where one is wanted.
+    // Whether the text is the wanted one, if one is wanted.
     is_wanted: bool,
     given_up: bool,
     astray: bool,
@@ -184,7 +184,7 @@ pub(super) struct Seen {
     answered: u32,
 }
 
-// What is seen where so many requests are answered and nothing is wrong.
+// What is seen if so many requests are answered and nothing is wrong.
 pub(super) fn all_right(requests: u32) -> Seen {
     Seen {
         status: Status::Done,
@@ -196,8 +196,8 @@ pub(super) fn all_right(requests: u32) -> Seen {
     }
 }
 
-// Serves these words over this input, of so many clients, with the program's runner, and with a gate that holds these
-// requests.
+// Serves these arguments over this input, of so many clients, with the program's runner, and with a gate that holds
+// these requests.
 pub(super) fn watched<Rt: Threads + Wait + Sync>(
     rt: &Rt,
     alloc: Global,

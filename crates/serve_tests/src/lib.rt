@@ -1,6 +1,7 @@
 //! Tests of the top call, `serve_session`, of what runs the clients of a session, `client_threads`, and of how calls
-//! are given to threads, `fork_join`: of what no run of the built program shows. So these are proved once, and not a
-//! second time with their tests. What the whole program writes is compared by rows that the built program is run on.
+//! are given to threads, `fork_join`: of what no run of the built program shows. They are in a crate of their own, so
+//! that those crates are not proved a second time with their tests. What the whole program writes is compared by rows
+//! that the built program is run on.
 #![tactic(auto)]
 
 #[cfg(test)]

@@ -78,7 +78,7 @@ fn found_over<Rt: Threads + Wait + Sync, R: Runner<OpenGate>>(
     Ok((placed.at, val))
 }
 
-// The same, where another pass of the index has put a value before and stays.
+// The same, if another pass of the index has put a value before and stays.
 fn found_beside<P: KeyPass, Rt: Threads + Wait + Sync, R: Runner<OpenGate>>(
     rt: &Rt,
     alloc: Global,
@@ -131,7 +131,7 @@ fn found_in_an_index<Rt: Threads + Wait + Sync>(
     found_by_threads(rt, alloc, &index, key, other, size)
 }
 
-// Pass 1 puts a value, and the runner has the key of pass 0 alone. A runner that answers from a replay of its own
+// Pass 1 puts a value, and the runner has only the key of pass 0. A runner that answers from a replay of its own
 // session's updates finds nothing: no change of one line makes such a runner, so this test stands for the wrong body.
 #[test]
 fn an_index_that_others_use(rt: HostRuntime) -> Result<(), Fail> {

@@ -5,8 +5,8 @@ use std::sync::Wait;
 use std::test::Fail;
 use std::thread::Threads;
 
-// Client 0 has used up its two slots before line 4, and client 1 has one to spare behind line 6. No contract tells
-// these texts to the tests, so that they are not computed when those are checked.
+// Client 0 has used up its two slots before line 4, and client 1 has one to spare after line 6. No contract gives these
+// texts to the tests, so that they are not computed when the tests are checked.
 fn handed_over() -> &'static str {
     "CLIENT\nPUT a 1 e1 1\nPUT b 2 e2 2\nPUT c 3 e3 3\nCLIENT\nDELETE a\n"
 }
@@ -84,7 +84,7 @@ fn a_slot_is_handed_over_once(rt: HostRuntime) -> Result<(), Fail> {
     Ok(())
 }
 
-// What the gate sees of one client with one slot, which this word gives.
+// What the gate sees of one client with one slot, which this argument gives.
 fn alone<Rt: Threads + Wait + Sync>(rt: &Rt, alloc: Global, slots: &str) -> Result<Seen, Fail> {
     let input = two_of_one_slot().as_bytes();
     let text = Some(of_few_slots());

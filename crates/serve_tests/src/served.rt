@@ -1,4 +1,4 @@
-// The one call of the program of these tests, with its words as plain text.
+// The one call of the program of these tests, with its arguments as plain text.
 use client_run::Gate;
 use client_threads::Runner;
 use key_names::Text;
@@ -9,7 +9,7 @@ use std::sync::Wait;
 use std::test::Fail;
 use std::thread::Threads;
 
-// How serving these words ends.
+// How serving these arguments ends.
 pub(super) fn served<S: Source, K: Sink, G: Gate + Sync, R: Runner<G>, Rt: Threads + Wait + Sync>(
     rt: &Rt,
     alloc: Global,
@@ -26,7 +26,7 @@ pub(super) fn served<S: Source, K: Sink, G: Gate + Sync, R: Runner<G>, Rt: Threa
 // Room for all that a session of these tests writes.
 const AMPLE: usize = 100_000;
 
-// How serving these words over this input ends, and whether the text is the wanted one, where one is wanted.
+// How serving these arguments over this input ends, and whether the text is the wanted one, if one is wanted.
 pub(super) fn told<G: Gate + Sync, R: Runner<G>, Rt: Threads + Wait + Sync>(
     rt: &Rt,
     alloc: Global,

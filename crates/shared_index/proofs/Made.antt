@@ -56,7 +56,7 @@ module _ (p q : Pass) (same : IsSamePass p q) (own : q.view.history.mine ≡ own
     looks = ap (λ n. min n (2 ^ 64 - 1)) made.fixes.looks;
   }
 
-  -- a put, where it was made
+  -- a put, if it was made
   pub put_shown : (answer : Result Done PassError) (line key val : ℕ) → IfOk answer (MakesPut p.view q.view p.number line key val)
       → IfOk answer (MadePut (shown p) (shown q) line key val)
   put_shown (Ok done) line key val made = made_put line key val done made
@@ -68,7 +68,7 @@ module _ (p q : Pass) (same : IsSamePass p q) (own : q.view.history.mine ≡ own
   tried_shown Moved line key val made = tt
   tried_shown Pending line key val made = tt
 
-  -- so where it was tried once
+  -- the same if it was tried once
   pub try_shown : (answer : Result Try PassError) (line key val : ℕ) → IfOk answer (λ tried. IfDone tried (MakesPut p.view q.view p.number line key val))
       → IfOk answer (λ tried. IfDone tried (MadePut (shown p) (shown q) line key val))
   try_shown (Ok tried) line key val made = tried_shown tried line key val made
@@ -105,7 +105,7 @@ module _ (p q : Pass) (same : IsSamePass p q) (own : q.view.history.mine ≡ own
   }
   removal_by false line key done absent = looked_for key false done.at absent
 
-  -- a removal, where it was answered
+  -- a removal, if it was answered
   pub removal_shown : (answer : Result Done PassError) (line key : ℕ) → IfOk answer (AnswersRemoval p.view q.view p.number line key)
       → IfOk answer (AnsweredRemoval (shown p) (shown q) line key)
   removal_shown (Ok done) line key answered = removal_by done.was line key done answered
@@ -118,7 +118,7 @@ module _ (p q : Pass) (same : IsSamePass p q) (own : q.view.history.mine ≡ own
   new_by line key val (MadeNew at) made = inserted line key val at made
   new_by line key val (Kept at) found = looked_for key true at found
 
-  -- a put that is made only where its key is not there, where it was answered
+  -- a put that is made only if its key is not there, if it was answered
   pub new_shown : (answer : Result New PassError) (line key val : ℕ) → IfOk answer (AnswersPutNew p.view q.view p.number line key val)
       → IfOk answer (AnsweredPutNew (shown p) (shown q) line key val)
   new_shown (Ok new) line key val answered = new_by line key val new answered

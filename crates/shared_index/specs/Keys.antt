@@ -10,8 +10,8 @@ use Rattle.table_steps.specs.Closes.{number_of}
 use Rattle.table_steps.specs.Passes.{Pass}
 use Rattle.shared_index.specs.Shown.{shown}
 
--- the numbers by which an index is told from each other one: those of its layout, and those by which its table is
--- named, the last of them a list
+-- the numbers that tell an index from each other one: those of its layout, and those by which its table is named, the
+-- last of them a list
 unfoldable pub home_of : TableId → Layout → List ℕ
 home_of id z = z.passes ∷ z.nodes ∷ z.entries ∷ z.calls ∷ id.words ∷ id.slots ∷ id.views_name ∷ id.atom ∷ id.block ∷ id.offset ∷ id.slot_names
 
@@ -39,7 +39,7 @@ pub record IsFresh (number : ℕ) (size : PassSize) (key : Pass) : Type 0 where
   pub nodes : length key.view.free.nodes ≡ size.nodes
   pub entries : length key.view.free.entries ≡ size.entries
 
--- these are the keys of passes of these sizes, with the numbers from one on, in order
+-- these are the keys of passes of these sizes, with the numbers from this one on, in order
 abbrev pub AreFresh : ℕ → List PassSize → List Pass → Type 0
 AreFresh number [] [] = Unit {0}
 AreFresh number (size ∷ sizes) (key ∷ keys) = IsFresh number size key × AreFresh (number + 1) sizes keys

@@ -1,4 +1,4 @@
--- What a pass of the table is to its caller, and the states of it between two calls.
+-- What a pass of the table is to its caller, and its states between two calls.
 use Rattle.std.specs.Prelude.{◌≡◌, ℕ, ◌-◌, ◌^◌, min, Some, None}
 use Rattle.index_words.specs.declared.view.View.{View}
 use Rattle.bucket_terms.specs.PassView.{PassView}

@@ -17,7 +17,7 @@ pub struct FinishError {
 
 impl SharedIndex {
     /// Ends the index and gives its whole history. It begins with what each of the keys has seen, and so with what each
-    /// note told that one of them heard. Each update was made by a pass of one of the keys, and the updates of each of
+    /// note had that one of them heard. Each update was made by a pass of one of the keys, and the updates of each of
     /// them stand at its own places.
     ///
     /// ```
@@ -26,7 +26,7 @@ impl SharedIndex {
     /// ```
     ///
     /// # Errors
-    /// For want of memory alone; the index and the keys then come back unchanged.
+    /// Only out of memory; the index and the keys then come back unchanged.
     pub fn finish(self, alloc: Global, keys: Vec<PassKey>) -> Result<Vec<Update>, FinishError>
         requires all { AreAllKeys self keys.items }
         ensures seen { IfOk result (λ history. BeginsWithSeen keys.items history.items) }

@@ -35,7 +35,7 @@ impl Homed for SharedIndex {
 /// Why no index was opened.
 #[derive(Clone, Copy, Debug, PartialEq, Eq)]
 pub enum OpenError {
-    /// No table takes these sizes.
+    /// No table can have these sizes.
     BadSizes,
     NoMemory,
 }
@@ -43,7 +43,7 @@ pub enum OpenError {
 impl SharedIndex {
     /// Opens an index for passes of these sizes, with an empty history. The keys are all keys of the index, each once,
     /// in the order of the sizes: key `i` has the number `i`, and the slots and calls of size `i`, all of them free.
-    /// All memory that later calls use is taken here, but for that of `finish`.
+    /// All memory that later calls use is taken here, except that of `finish`.
     ///
     /// ```
     /// let size = PassSize { nodes: 8, entries: 32, calls: 8 };
@@ -52,8 +52,8 @@ impl SharedIndex {
     /// ```
     ///
     /// # Errors
-    /// `BadSizes` where there are no sizes or more than 32 of them, where one has no node or fewer than 4 entries, or
-    /// where the sum of nodes is above 262,144, of entries above 1,048,576 or of calls above 16,777,216.
+    /// `BadSizes` if there are no sizes or more than 32 of them, if one has no node or fewer than 4 entries, or if the
+    /// sum of nodes is above 262,144, of entries above 1,048,576 or of calls above 16,777,216.
     pub fn open(alloc: Global, sizes: &[PassSize]) -> Result<(SharedIndex, Vec<PassKey>), OpenError>
         ensures bad_sizes { IsErrOf result OpenError.BadSizes ↔ (¬ FitTable sizes.now) }
         ensures of { IfOk result (λ opened. All (IsKeyOf opened.0) opened.1.items) }
@@ -76,7 +76,7 @@ impl SharedIndex {
         &self.table
     }
 
-    /// Takes up the work of a pass. No snapshot is open, and all else is the key's.
+    /// Takes up the work of a pass. No snapshot is open, and everything else is as the key has it.
     ///
     /// ```
     /// let mut pass = index.attach(key);

@@ -1,5 +1,5 @@
-//! A pass of the index keeps the clauses of a pass. Beside them stands which step of the call gives each place: the
-//! raise of an update of its own, or a load of the stamp.
+//! A pass of the index keeps the clauses of a pass. Besides them its contracts say which step of the call gives each
+//! place: the raise of an update of its own, or a load of the stamp.
 ghost use Rattle.std.specs.Prelude.{◌≡◌, ◌↔◌, None, IfOk, OnErr, IsErrOf};
 ghost use Rattle.bucket_terms.specs.Gathering.{Gathered};
 ghost use Rattle.bucket_terms.specs.PassView.{MadePut, AnsweredPutNew, AnsweredRemoval, Began, IsOutOfSlots};
@@ -62,7 +62,7 @@ impl<'t> KeyPass for IndexPass<'t> {
         answer
     }
 
-    /// It may wait where `put` does, and in one case more: where the node of the key has two children and its successor
+    /// It may wait where `put` does, and in one more case: if the node of the key has two children and its successor
     /// hangs further down, it returns only once each other pass was outside a section since the removal took effect. So
     /// it does not return while another pass keeps a snapshot open; reads, and updates at other nodes, go on meanwhile.
     fn remove<Rt: Wait>(&mut self, rt: &Rt, line: u32, key: u64) -> Result<Done, PassError>
@@ -80,7 +80,7 @@ impl<'t> KeyPass for IndexPass<'t> {
     }
 
     /// A pass that owns a node, and fewer than four entries, cuts old entries that nobody reads until it owns enough.
-    /// While others read them it waits, for a bounded time, and for each of their numbers once.
+    /// While others read them it waits, for a bounded time, and once for each of their numbers.
     fn gather<Rt: Wait>(&mut self, _rt: &Rt)
         requires closed { (shown self.old).opened ≡ None }
         ensures gathered { Gathered (shown self.old) (shown self.new) }

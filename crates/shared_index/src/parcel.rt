@@ -1,4 +1,4 @@
-//! A pass of the index lends free node slots to others, and adopts theirs.
+//! A pass of the index lends free node slots to other passes, and adopts slots from them.
 ghost use Rattle.std.specs.Prelude.{◌≡◌, ◌<◌, ◌+◌, None, length};
 ghost use Rattle.bucket_terms.specs.Pool.{Adopted, Lent};
 ghost use Rattle.shared_index.specs.Keys.{home_of_note, home_of_pass};
@@ -9,8 +9,8 @@ use crate::pass::IndexPass;
 use bucket_terms::{Homed, PoolPass, Slots, Tagged};
 use std::marker::Model;
 
-/// A node slot on its way from one pass of an index to another. It is of no pass. Contracts see its index, and which
-/// slot it is. One that is dropped is lost: no pass of the index can use the slot again.
+/// A node slot on its way from one pass of an index to another. No pass owns it. Contracts see its index, and which
+/// slot it is. If it is dropped it is lost: no pass of the index can use the slot again.
 #[derive(Drop)]
 pub struct Parcel {
     pub(crate) parcel: table_steps::Parcel,

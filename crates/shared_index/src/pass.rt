@@ -45,7 +45,7 @@ impl<'t> Model for IndexPass<'t> {
 }
 
 impl<'t> IndexPass<'t> {
-    /// Lays the work of the pass down. The key is of the same index, and all of the pass's meanings are the key's.
+    /// Ends the work of the pass. The key is of the same index, and has all that the pass had.
     pub fn detach(self) -> PassKey
         requires closed { (shown self).opened ≡ None }
         ensures same { result ≡ self.entry }
@@ -53,7 +53,7 @@ impl<'t> IndexPass<'t> {
         self.pass.detach()
     }
 
-    /// Tells what the pass has seen. The pass is as it was. It takes no memory and never waits.
+    /// Makes a note of what the pass has seen. The pass is unchanged. It takes no memory and never waits.
     pub fn tell(&mut self) -> Note
         ensures same { self.new ≡ self.old }
         ensures of { home_of_note result ≡ home_of_pass self.old }
@@ -80,7 +80,7 @@ impl<'t> IndexPass<'t> {
         self.way.forget();
     }
 
-    /// Tries to free the slots that updates of this pass took out. Where none of them waits yet, all of them begin to
+    /// Tries to free the slots that updates of this pass took out. If none of them waits yet, all of them begin to
     /// wait. `Settled`: all that waited are free. `Held`: another pass was found in the same section at two looks since
     /// they began to wait. It takes no memory and never waits.
     pub fn try_settle(&mut self) -> Settling
@@ -92,12 +92,13 @@ impl<'t> IndexPass<'t> {
         tree_update::try_settle(&mut self.pass)
     }
 
-    /// Tries once to put the key with this value, for the request line `line`. It takes no memory and never waits:
-    /// where it meets what another pass is doing, it gives all back and tells what it has met, and the count of this
+    /// Tries once to put the key with this value, for the request line `line`. It takes no memory and never waits: if
+    /// it meets what another pass is doing, it gives everything back and reports what it has met, and the count of this
     /// has risen. A pass that is alone in its index meets nothing: its try is made, or refused by an error.
     ///
-    /// # Errors `Spent` where no call is left. `NoSlot` where calls are left, but no node or fewer than four entries
-    /// are free; a try does not free retired slots first (`try_settle` does). The pass is then unchanged.
+    /// # Errors
+    /// `Spent` if no call is left. `NoSlot` if calls are left, but no node or fewer than four entries are free; a try
+    /// does not free retired slots first (`try_settle` does). The pass is then unchanged.
     pub fn try_put(&mut self, line: u32, key: u64, val: u64) -> Result<Try, PassError>
         requires closed { (shown self.old).opened ≡ None }
         ensures made { IfOk result (λ tried. IfDone tried (MadePut (shown self.old) (shown self.new) line key val)) }

@@ -43,7 +43,7 @@ weaker [] f all = tt
 weaker (b ∷ books) f all = (f b all.0, weaker books f all.1)
 
 module _ {T : Type 0} (home : T → List ℕ) (tag : T → ℕ) where
-  -- an opened book tells that the depot was opened
+  -- an opened book shows that the depot was opened
   even : (items : List T) (books : List Book) (seat : ℕ) (b : Book) → b.opened ≡ true → Ruled home tag items books → get_elem? books seat ≡ some b → (t : Terms) × AreEven home tag t items books × (b.terms ≡ t)
   even items books seat b opened rule at =
       ⊎_elim (λ (first : (books ≡ unopened ∷ []) × (items ≡ [])). absurd (true≢false (sym opened ∙ ap (λ (c : Book). c.opened) (unopened_alone books seat b first.0 at))))
@@ -119,7 +119,7 @@ module _ {T : Type 0} (home : T → List ℕ) (tag : T → ℕ) where
         },
       )
 
-  -- a book is changed in nothing that the rule speaks of, and another book is there, which is spent
+  -- a book changes in nothing that the rule speaks of, and there is one more book, which is spent
   forks : (seat : ℕ) (b after : Book) → b.opened ≡ true → after.opened ≡ b.opened → after.terms ≡ b.terms → after.shares ≡ b.shares → after.gave ≡ b.gave → after.took ≡ b.took
       → Forks (Ruled home tag) seat b after spent
   forks seat b after opened o t n g k items books rule at =

@@ -1,4 +1,4 @@
--- The books of a depot's seats, and the rule of the queue: that they come out even with what the queue holds.
+-- The books of a depot's seats, and the rule of the queue: that they balance with what the queue holds.
 use Rattle.std.specs.Prelude.{◌≡◌, ℕ, ◌+◌, ◌<◌, ◌≤◌, ◌⊎◌, Bool, true, false, List, [], ◌∷◌, ◌++◌, length, map}
 use Rattle.std.specs.List.{concat}
 use Rattle.key_map.specs.Lists.{count, Every}
@@ -88,7 +88,7 @@ module _ {T : Type 0} (home_of : T → List ℕ) (tag_of : T → ℕ) where
     pub balance : (n : ℕ) → total (given n) all ≡ total (taken n) all + count n (map tag_of items)
     pub sizes : total gifts all ≡ total takes all + length items
 
-  -- the rule of the queue: the depot was not opened yet, or what it holds and all books come out even
+  -- the rule of the queue: the depot was not opened yet, or what it holds and all books balance
   abbrev pub Ruled : List T → List Book → Type 0
   Ruled items books = ((books ≡ unopened ∷ []) × (items ≡ [])) ⊎ ((t : Terms) × AreEven t items books)
 
@@ -98,12 +98,12 @@ module _ {T : Type 0} (home_of : T → List ℕ) (tag_of : T → ℕ) where
     pub home : home_of x ≡ b.terms.home
     pub more : b.shares ≡ b.terms.seats → takes b < gifts b
 
-  -- what a look at the queue tells a seat with this book: what the queue holds, and books that follow the rule with it,
-  -- this one among them
+  -- what a look at the queue shows to a seat with this book: what the queue holds, and books that follow the rule
+  -- with it, this one among them
   abbrev pub Shows : Book → List T → Type 0
   Shows b items = (books : List Book) × Ruled items books × (seat : ℕ) × (get_elem? books seat ≡ some b)
 
-  -- at one moment the queue held so many parcels, and books that the rule allows were those of the seats, this one among
-  -- them
+  -- at one moment the queue held so many parcels, and books that the rule allows were those of the seats, this one
+  -- among them
   abbrev pub HeldParcels : ℕ → Book → Type 0
   HeldParcels n b = Held n (Shows b)

@@ -13,7 +13,7 @@ pub struct Terms {
 
 /// The book of a seat.
 pub struct Book {
-    /// Whether the terms are those of the depot. They are not before it was opened, and behind its close.
+    /// Whether the terms are those of the depot. They are not before it is opened, and after it is closed.
     pub opened: bool,
     pub terms: Terms,
     /// For how many seats it stands: one, or none for the depot's own book, or all while the depot is opened or closed.

@@ -1,4 +1,4 @@
-//! How a depot is closed, to the parcels that are left.
+//! How a depot is closed, which gives the parcels that are left.
 ghost use Rattle.std.specs.Prelude.{◌≡◌, ◌<◌, ◌≤◌, ◌+◌, ℕ, List, [], true, length, map, IfOk, IfErr};
 ghost use Rattle.std.specs.Vec.{vec_capacity};
 ghost use Rattle.key_map.specs.Lists.{count, Every};
@@ -14,7 +14,7 @@ use bucket_terms::Tagged;
 use std::alloc::Global;
 use std::sync::Wait;
 
-/// There was no memory for the list of what is left. The depot and its seats come back as they were.
+/// There was no memory for the list of what is left. The depot and its seats are returned as they were.
 #[derive(Drop)]
 pub struct CloseFault<T: Tagged> {
     pub depot: Depot<T>,
@@ -79,7 +79,7 @@ fn drain<T: Tagged + Drop, Rt: Wait>(
 {
     let mut whole = whole;
     let mut left = left;
-    // What is left fits: this look tells it.
+    // What is left fits: this look shows it.
     queue.learn_as::<Takes<T>>(&mut whole);
     for _ in rt.forever() {
         match queue.pop_as::<Takes<T>, Rt>(rt, &mut whole) {
@@ -91,11 +91,11 @@ fn drain<T: Tagged + Drop, Rt: Wait>(
 }
 
 impl<T: Tagged + Drop> Depot<T> {
-    /// Closes the depot to the parcels that are left in it. Each tag stands as often in all that its seats gave as in
-    /// all that they took and among the parcels that are left. It may wait, as `take` does.
+    /// Closes the depot and gives the parcels that are left in it. Each tag stands as often in all that its seats
+    /// gave as in all that they took and among the parcels that are left. It may wait, as `take` does.
     ///
     /// # Errors
-    /// For want of memory alone. The depot and its seats then come back unchanged.
+    /// Only out of memory. The depot and its seats are then returned unchanged.
     pub fn close<Rt: Wait>(
         self,
         rt: &Rt,

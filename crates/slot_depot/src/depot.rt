@@ -14,9 +14,9 @@ use std::marker::{Brand, Model};
 use std::sync::Wait;
 
 /// A place where the threads of one index leave parcels for one another. Each has a seat of its own. Contracts see
-/// which depot it is, and how many parcels it holds at most; the index whose parcels it takes is told by its seats
-/// (`terms`). What it holds at a moment no contract can say, since others give and take at any time; what its seats
-/// have given and taken comes out even with it, which `close` tells.
+/// which depot it is, and how many parcels it holds at most; its seats say of which index it takes parcels (`terms`).
+/// No contract can say what it holds at a moment, since others give and take at any time; `close` says that what its
+/// seats have given and taken balances with what it holds.
 #[derive(Drop)]
 pub struct Depot<T: Tagged> {
     pub(crate) queue: ParcelQueue<T>,
@@ -32,15 +32,15 @@ impl<T: Tagged> Model for Depot<T> {
 }
 
 impl<T: Tagged + Drop> Depot<T> {
-    /// Opens a depot for parcels of the index that `like` is of, with so many seats, which holds so many parcels. It is
-    /// empty. All memory that `give` and `take` use is taken here.
+    /// Opens a depot for parcels of the index that `like` belongs to, with so many seats, which holds so many
+    /// parcels. It is empty. All memory that `give` and `take` use is taken here.
     ///
     /// ```
     /// let (depot, mut seats) = Depot::open(alloc, 2, 8, &pass)?;
     /// ```
     ///
     /// # Errors
-    /// For want of memory.
+    /// Out of memory.
     pub fn open<H: Homed>(
         alloc: Global,
         seats: u32,
@@ -64,10 +64,10 @@ impl<T: Tagged + Drop> Depot<T> {
     /// Leaves a parcel for others. It takes no memory, and may wait for another thread that is about to give or take.
     ///
     /// # Errors
-    /// The parcel comes back, and `fulls` has then risen by one; the rest of the seat's book is as it was. The code
-    /// raises it only after a look of this call that has found the depot full. No clause ties the two together: what a
-    /// look finds leaves no trace in the seat's view of the queue, and in a depot of two seats or more `found_full` holds
-    /// of every book.
+    /// The parcel is returned, and `fulls` has then risen by one; the rest of the seat's book is as it was. The code
+    /// raises it only after a look of this call that has found the depot full. No clause ties the two together: what
+    /// a look finds leaves no trace in the seat's view of the queue, and in a depot of two seats or more `found_full`
+    /// holds of every book.
     pub fn give<Rt: Wait>(&self, rt: &Rt, seat: &mut DepotSeat<T>, parcel: T) -> Result<(), T>
         requires seat { IsSeatOf self.now seat.old }
         requires home { T.home parcel ≡ seat.old.book.terms.home }
@@ -89,11 +89,11 @@ impl<T: Tagged + Drop> Depot<T> {
         }
     }
 
-    /// Takes a parcel that was left, the oldest one. With `None`, `empties` has risen by one, and the rest of the seat's
-    /// book is as it was. The code raises it only after a look of this call that has found the depot empty. No clause
-    /// ties the two together: what a look finds leaves no trace in the seat's view of the queue, and in a depot of two
-    /// seats or more `found_empty` holds of every book. It takes no memory, and may wait for another thread that is about
-    /// to give or take.
+    /// Takes a parcel that was left, the oldest one. With `None`, `empties` has risen by one, and the rest of the
+    /// seat's book is as it was. The code raises it only after a look of this call that has found the depot empty. No
+    /// clause ties the two together: what a look finds leaves no trace in the seat's view of the queue, and in a
+    /// depot of two seats or more `found_empty` holds of every book. It takes no memory, and may wait for another
+    /// thread that is about to give or take.
     pub fn take<Rt: Wait>(&self, rt: &Rt, seat: &mut DepotSeat<T>) -> Option<T>
         requires seat { IsSeatOf self.now seat.old }
         ensures seat { seat.new.id ≡ seat.old.id }

@@ -1,6 +1,6 @@
-//! A depot of parcels, through which the passes of one index hand one another what they have to spare. It is a bounded
-//! queue of the kit's, under a rule by which the books of its seats come out even with what it holds. The layer above
-//! opens a depot with a seat for each thread, gives parcels and takes them, and closes it to what is left.
+//! A depot of parcels, through which the passes of one index hand spare ones to one another. It is a bounded queue of
+//! the kit, with a rule that the books of its seats balance with what it holds. The layer above opens a depot with a
+//! seat for each thread, gives parcels and takes them, and closes it, which gives what is left.
 #![tactic(auto)]
 
 mod book;

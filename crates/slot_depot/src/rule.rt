@@ -1,4 +1,4 @@
-//! The rule of the queue, and what each step on it tells.
+//! The rule of the queue, and what each step on it shows.
 
 use crate::book::Book;
 use bucket_terms::Tagged;
@@ -6,7 +6,7 @@ use crossbeam_queue::protocol::{Join, Lesson, Outcome, Protocol, Split};
 use crossbeam_queue::{Pass, RuledArrayQueue};
 use std::marker::{Brand, PhantomData};
 
-/// The rule that the books come out even.
+/// The rule that the books balance.
 pub struct Even<T> {
     parcel: PhantomData<T>,
 }

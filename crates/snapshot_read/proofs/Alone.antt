@@ -1,4 +1,4 @@
--- The looks of a pass that is alone on its table tell their answers.
+-- The looks of a pass that is alone on its table always give an answer.
 use Rattle.std.proofs.Common.{◌∙◌, ap}
 use Rattle.index_words.specs.declared.layout.Layout.{Layout}
 use Rattle.table_steps.specs.Passes.{Pass, IsAlone, IsSamePass}

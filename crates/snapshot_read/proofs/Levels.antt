@@ -60,7 +60,7 @@ module _ (v : View) (t child : ℕ) (s : Search) (reads : ReadsAt v t) (some : 0
   there : leb child v.layout.nodes ≡ true
   there = low_true child v.layout.nodes child_high
 
-  -- the same behind other loads
+  -- the same after other loads
   module _ (v' : View) (read : HasRead v v') where
     low_too : child ≤ v'.layout.nodes
     low_too = subst (λ (z : Layout). child ≤ z.nodes) (sym (layout_same v v' read)) child_high
@@ -85,7 +85,7 @@ module _ (v : View) (t child : ℕ) (s : Search) (reads : ReadsAt v t) (some : 0
         subst (λ k. keys_left (right_of child k s.best) < keys_left s) (sym key_is)
         (right_closer tree s way child top.key top.val top.left top.right top.is)
 
-    -- and the value, behind other loads
+    -- and the value, after other loads
     module _ (v' : View) (read : HasRead v v') (seat' y : ℕ) (u : View) (g : Happened v'.layout (event_at v'.layout seat' LoadKeyOrVal (Node Val child) 0) v' y u) where
       val_is : y ≡ top.val
       val_is =

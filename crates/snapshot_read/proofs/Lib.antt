@@ -8,5 +8,5 @@ pub mod Ways
 pub mod Begins
 -- One level down the snapshot's tree.
 pub mod Levels
--- The looks of a pass that is alone on its table tell their answers.
+-- The looks of a pass that is alone on its table always give an answer.
 pub mod Alone

@@ -27,7 +27,7 @@ module _ (z : Layout) (words : List ℕ) (vs : List View) (rule : InRule z words
   pub inside_at : InsideAt v t
   inside_at = record { section = section_is; inside = reads.inside }
 
-  -- it has seen so many updates
+  -- it has seen this many updates
   known : t ≤ length v.history.seen
   known = subst (λ o. IfSome o (λ n. n ≤ length v.history.seen)) section_is (at_item KnowsPlaces vs i v (item_at vs i v at) rule.places).section
 

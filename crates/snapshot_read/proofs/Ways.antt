@@ -1,4 +1,4 @@
--- The way of a search down the snapshot's tree: where it begins, one level down, and what it ends with.
+-- The way of a search down the snapshot's tree: where it begins, one level down, and its result.
 use Rattle.std.proofs.Common.{◌≡◌, ℕ, ◌+◌, ◌^◌, ◌<◌, ◌≤◌, List, [], ◌∷◌, ◌++◌, length, arith, refl, ap, ◌∙◌, sym, subst, inl, inr, Option, Some, None, append-nil, append_assoc}
 use Rattle.std.specs.Prelude.{IfSome}
 use Rattle.std.specs.Option.{option_or}
@@ -172,12 +172,12 @@ search_none key low high (Branch slot k v l r) h past =
     let below : k < high = h.1 in
     search_from-right key slot k v l r (omega (arith, below, past)) ∙ search_none key (k + 1) high r h.3 past
 
--- the key of a pair, where there is one
+-- the key of a pair, if there is one
 abbrev pub key_or : Option Pair → ℕ
 key_or None = 0
 key_or (Some p) = p.key
 
--- at the node of the key the search ends too
+-- the search also ends at the node of the key
 pub way_meets : (v : View) (t key : ℕ) (s : Search) (tree : NamedTree) → IsSnapshotTree v t tree → IsOnWay v t s → Covers key s
     → (here : Pair) → s.best ≡ Some here → here.key ≡ key → Some here ≡ first_from key (after v.history.seen t)
 way_meets v t key s tree is on covers here best met =
@@ -213,12 +213,12 @@ some_same a b is = ap (λ (o : Option ℕ). some_or o a) is
 pub every_before : (v w : View) (t : ℕ) (kept : List Search) → HasRead v w → Every (IsOnWay w t) kept → Every (IsOnWay v t) kept
 every_before v w t kept read = every_weaker (IsOnWay w t) (IsOnWay v t) kept (λ s on. λ tree is. on tree (tree_after v w t tree read is))
 
--- what is kept is kept behind other loads
+-- what is kept is still kept after other loads
 pub kept_on : (v w : View) (t : ℕ) (kept : List Search) → HasRead v w → ReadsAt v t → Every (IsOnWay v t) kept → IsKeptWay w kept
 kept_on v w t kept read reads every = λ n opened.
     subst (λ k. Every (IsOnWay w k) kept) (some_same t n (sym (reads_on v w t read reads).opened ∙ opened)) (every_on v w t kept read every)
 
--- the best pair so far is the answer where it is the first one
+-- the best pair so far is the answer if it is the first one
 pub answer_is : (look : Look) (best first : Option Pair) → told look ≡ Some best → best ≡ first → IsAnswer look first
 answer_is look best first is same = subst (λ (t : Option (Option Pair)). IfSome t (λ answer. answer ≡ first)) (sym is) same
 

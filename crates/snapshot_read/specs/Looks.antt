@@ -5,17 +5,17 @@ use Rattle.bundle_reads.specs.Children.{waits_after as counted_after}
 use Rattle.snapshot_read.specs.declared.looks.Look.{Look}
 use Rattle.snapshot_read.specs.declared.looks.Look.TheVariants.{Found, Nothing, Pending}
 
--- what a look tells of the first pair, where that is known
+-- what a look reports of the first pair, if that is known
 abbrev pub told : Look → Option (Option Pair)
 told (Found pair) = Some (Some pair)
 told Nothing = Some None
 told Pending = None
 
--- what a look has come to is this, where it is known
+-- if the answer of a look is known, it is this
 abbrev pub IsAnswer : Look → Option Pair → Type 0
 IsAnswer look first = IfSome (told look) (λ answer. answer ≡ first)
 
--- what holds where it is not
+-- what holds if it is not known
 abbrev pub IfUnknown : Look → Type 0 → Type 0
 IfUnknown look fact = IfNone (told look) fact
 
@@ -23,6 +23,6 @@ IfUnknown look fact = IfNone (told look) fact
 abbrev pub IsKnown : Look → Type 0
 IsKnown look = IfUnknown look ⊥
 
--- the count of entries without a stamp after a look: it has risen where the answer is not known
+-- the count of entries without a stamp after a look: it has risen if the answer is not known
 abbrev pub waits_after : Look → ℕ → ℕ
 waits_after look n = counted_after (told look) n

@@ -33,7 +33,7 @@ abbrev pub IsSnapshotTree : View → ℕ → NamedTree → Type 0
 IsSnapshotTree v t tree = IsTreeOf v.layout.nodes v.reading.tree (after v.history.seen t) tree
 
 -- a snapshot was opened at this number: that of all updates that the pass has seen then, which go on from what it had
--- seen. A look is counted; its own updates, how many it may still make, and how many slots it owns are as before
+-- seen. A look is counted; its own updates, how many it may still make, and how many slots it owns are unchanged
 pub record HasBegun (v w : View) (at : ℕ) : Type 0 where
   pub seen : Extends v.history.seen w.history.seen
   pub whole : length w.history.seen ≡ at

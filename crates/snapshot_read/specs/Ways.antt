@@ -13,7 +13,7 @@ use Rattle.core_trees.specs.Search.{search_from}
 use Rattle.snapshot_read.specs.Snapshots.{IsSnapshotTree}
 use Rattle.snapshot_read.specs.declared.kept_way.Search.{Search}
 
--- the key below which the keys of the tree are that is still to be searched
+-- the keys of the tree that is still to be searched are below this key
 abbrev pub high_of : Option Pair → ℕ
 high_of None = 2 ^ 64
 high_of (Some pair) = pair.key
@@ -26,9 +26,9 @@ keys_left s = high_of s.best - s.low
 abbrev pub Covers : ℕ → Search → Type 0
 Covers key s = (s.low ≤ key) × (key ≤ high_of s.best)
 
--- of this tree the search has come to a link, at which the tree `below` hangs: its keys are within the bounds that the
--- search keeps. For each key that it covers, the answer is the first pair from the key on in that tree, or else the best
--- one so far
+-- the search has reached a link of this tree, at which the tree `below` hangs: its keys are within the bounds that the
+-- search keeps. For each key that the search covers, the answer is the first pair from the key on in that tree, or else
+-- the best one so far
 pub record OnWay (tree : NamedTree) (s : Search) : Type 0 where
   pub below : NamedTree
   pub front : List TreeNode
@@ -50,11 +50,11 @@ root = record { at = record { node = 0; side = Right }; low = 0; best = None }
 abbrev pub right_of : ℕ → ℕ → Option Pair → Search
 right_of node key best = record { at = record { node = node; side = Right }; low = key + 1; best = best }
 
--- where a snapshot is open, each search that is kept is on the way down its tree
+-- if a snapshot is open, each search that is kept is on the way down its tree
 abbrev pub IsKeptWay : View → List Search → Type 0
 IsKeptWay v kept = (t : ℕ) → v.reading.opened ≡ Some t → Every (IsOnWay v t) kept
 
--- the last search is taken away, where there is one
+-- the last search is taken away, if there is one
 abbrev pub IsTaken : List Search → Option Search → List Search → Type 0
 IsTaken old None new = new ≡ old
 IsTaken old (Some s) new = old ≡ new ++ s ∷ []

@@ -8,7 +8,7 @@ use core_trees::Link;
 use index_words::{Pair, Side};
 use std::marker::Model;
 
-/// As many searches as are kept at most.
+/// How many searches are kept at most.
 const STEPS: usize = 32;
 
 /// How far a search has come.
@@ -16,9 +16,9 @@ const STEPS: usize = 32;
 pub struct Search {
     /// The link at which it goes on.
     pub(crate) at: Link,
-    /// The keys of the tree that hangs there are at least `low`, and below that of `best`.
+    /// The keys of the tree that hangs there are at least `low`, and below the key of `best`.
     pub(crate) low: u64,
-    /// The pair that is the answer where that tree has none.
+    /// The pair that is the answer if that tree has none.
     pub(crate) best: Option<Pair>,
 }
 
@@ -101,14 +101,14 @@ impl Way {
         }
     }
 
-    /// Forgets all that is kept.
+    /// Forgets all searches that are kept.
     pub fn forget(&mut self)
         ensures { (v : View) → IsKeptWay v self.new }
     {
         self.count = 0;
     }
 
-    /// Keeps a search. Where there is no room, all others are forgotten.
+    /// Keeps a search. If there is no room, all others are forgotten.
     pub(crate) fn keep(&mut self, search: Search)
         ensures { (v : View) (t : ℕ) → Every (IsOnWay v t) self.old → IsOnWay v t search → Every (IsOnWay v t) self.new }
     {
@@ -119,7 +119,7 @@ impl Way {
         self.count += 1;
     }
 
-    /// Keeps the search that goes on to the right of a node with this key, which is not kept where no key is higher.
+    /// Keeps the search that goes on to the right of a node with this key. It is not kept if no key is higher.
     pub(crate) fn keep_right(&mut self, node: u32, key: u64, best: Option<Pair>)
         ensures { (v : View) (t : ℕ) → Every (IsOnWay v t) self.old → IsOnWay v t (right_of node key best) → Every (IsOnWay v t) self.new }
     {
@@ -140,8 +140,8 @@ impl Way {
         Some(self.steps[self.count])
     }
 
-    /// Takes a search that goes on for this key: the one kept last that covers it, else that which begins at the root.
-    /// Those kept later are forgotten.
+    /// Takes a search that goes on for this key: the last one kept that covers it, or else the one that begins at the
+    /// root. Those kept later are forgotten.
     pub(crate) fn take(&mut self, key: u64) -> Search
         ensures covers { Covers key result }
         ensures kept { (v : View) (t : ℕ) → Every (IsOnWay v t) self.old → Every (IsOnWay v t) self.new }

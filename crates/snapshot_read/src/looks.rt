@@ -1,21 +1,22 @@
+//! The answer of one look into the open snapshot.
 ghost use Rattle.std.specs.Prelude.{◌≡◌, Some};
 ghost use Rattle.snapshot_read.specs.Looks.{told};
 
 use index_words::Pair;
 
-/// What one look into the open snapshot comes to.
+/// The answer of one look into the open snapshot.
 #[derive(Clone, Copy, Debug, PartialEq, Eq)]
 pub enum Look {
     /// The first pair from the key on.
     Found(Pair),
     /// There is no pair from the key on.
     Nothing,
-    /// An entry had no stamp yet: another pass has it pending. Nothing is known; a later look may tell.
+    /// An entry had no stamp yet: another pass has it pending. Nothing is known; a later look may give the answer.
     Pending,
 }
 
 impl Look {
-    // Where a search ends: the best pair that it has met is the first one.
+    // Where a search ends, the best pair that it has met is the first one.
     pub(crate) fn of_best(best: Option<Pair>) -> Look
         ensures { told result ≡ Some best }
     {
@@ -25,7 +26,7 @@ impl Look {
         }
     }
 
-    // What it tells of the first pair. None where nothing is known.
+    // What is known of the first pair. None if nothing is known.
     pub(crate) fn known(self) -> Option<Option<Pair>>
         ensures { result ≡ told self }
     {

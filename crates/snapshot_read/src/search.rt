@@ -20,8 +20,8 @@ use index_words::{Pair, Side};
 use table_steps::TablePass;
 
 /// One level down, at a node of the snapshot's tree: to the left with the node's pair as the best one so far, or to the
-/// right where its key is too small. Where it goes to the left, a search to the right of the node would be on the way
-/// too, for keys above the node's.
+/// right if the node's key is too small. Where it goes to the left, a search to the right of the node would also be on
+/// the way, for keys above the node's.
 #[inline(always)]
 fn go_down(pass: &mut TablePass<'_>, at: u64, key: u64, child: u32, search: Search) -> Search
     requires reads { ReadsAt pass.old.view at }
@@ -82,8 +82,8 @@ fn go_on(
     below
 }
 
-/// The first pair from the key on, in the snapshot that is open at `at`. The search goes on from one that is kept,
-/// where one covers the key.
+/// The first pair from the key on, in the snapshot that is open at `at`. The search goes on from one that is kept, if
+/// one covers the key.
 pub(crate) fn look_on(pass: &mut TablePass<'_>, at: u64, key: u64, way: &mut Way) -> Look
     requires reads { ReadsAt pass.old.view at }
     requires kept { Every (IsOnWay pass.old.view at) way.old }
@@ -99,8 +99,9 @@ pub(crate) fn look_on(pass: &mut TablePass<'_>, at: u64, key: u64, way: &mut Way
     let from_root = search.is_at_root();
     'down: loop {
         if from_root {
-            // The child that the bundle tells is mostly this one. The waits for its key and for the bundle's entry, which
-            // tells it, are one then. A search that goes on from a kept one has few levels, most of them near.
+            // The child that the bundle gives is mostly this one. The wait for its key and the wait for the bundle's
+            // entry, which gives the child, are then one. A search that goes on from a kept one has few levels, and
+            // most of them are in the cache.
             pass.fetch_child(search.at.node, search.at.side);
         }
         let Some(child) = child_at(pass, at, search.at) else {
@@ -113,8 +114,8 @@ pub(crate) fn look_on(pass: &mut TablePass<'_>, at: u64, key: u64, way: &mut Way
     }
 }
 
-/// The first pair from the key on, in the snapshot that is open at `at`. The search begins at the root, and none is kept.
-/// It ends early at the node of the key.
+/// The first pair from the key on, in the snapshot that is open at `at`. The search begins at the root, and none is
+/// kept. It ends early at the node of the key.
 pub(crate) fn look_from(pass: &mut TablePass<'_>, at: u64, key: u64) -> Look
     requires reads { ReadsAt pass.old.view at }
     ensures same { IsSamePass pass.old pass.new }
@@ -126,7 +127,7 @@ pub(crate) fn look_from(pass: &mut TablePass<'_>, at: u64, key: u64) -> Look
     pass.facts();
     let mut search = Search::root();
     'down: loop {
-        // The waits for the key and for the bundle's entry are one, as where `look_on` begins at the root.
+        // The wait for the key and the wait for the bundle's entry are one, as in `look_on` from the root.
         pass.fetch_child(search.at.node, search.at.side);
         let Some(child) = child_at(pass, at, search.at) else {
             return Look::Pending;

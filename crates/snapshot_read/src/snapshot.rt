@@ -17,7 +17,7 @@ use std::sync::Wait;
 use std::thread::yield_now;
 use table_steps::TablePass;
 
-/// Opens a snapshot, and answers its number: the number of updates that a load of the stamp in this call found.
+/// Opens a snapshot, and answers its number: how many updates a load of the stamp in this call found.
 pub fn begin(pass: &mut TablePass<'_>) -> u64
     requires rest { AtRest pass.old.view }
     ensures same { IsSamePass pass.old pass.new }
@@ -41,7 +41,7 @@ pub fn end(pass: &mut TablePass<'_>)
 
 /// One look for the first pair of the open snapshot whose key is at least `key`. It does not wait: where an entry has
 /// no stamp yet it answers `Pending`, and the count of such entries rises; a pass that is alone on its table meets
-/// none. The search goes on from the way that an earlier one of this snapshot has kept, and keeps its own.
+/// none. The search goes on from the way that an earlier search of this snapshot has kept, and keeps its own.
 pub fn try_next_on(pass: &mut TablePass<'_>, way: &mut Way, key: u64) -> Look
     requires reads { IsReading pass.old.view }
     requires kept { IsKeptWay pass.old.view way.old }
@@ -59,7 +59,7 @@ pub fn try_next_on(pass: &mut TablePass<'_>, way: &mut Way, key: u64) -> Look
     look_on(pass, at, key, way)
 }
 
-/// As `try_next_on`, from the root of the tree on.
+/// As `try_next_on`, but from the root of the tree.
 pub fn try_next_from(pass: &mut TablePass<'_>, key: u64) -> Look
     requires reads { IsReading pass.old.view }
     ensures same { IsSamePass pass.old pass.new }
@@ -76,8 +76,8 @@ pub fn try_next_from(pass: &mut TablePass<'_>, key: u64) -> Look
 }
 
 /// The first pair of the open snapshot whose key is at least `key`. Where an entry has no stamp yet it tries again,
-/// until the pass that has it pending has written it. In between it lets other threads run. The search goes on from the
-/// way that an earlier one of this snapshot has kept, and keeps its own.
+/// until the pass that has it pending has written it. Between the tries it lets other threads run. The search goes on
+/// from the way that an earlier search of this snapshot has kept, and keeps its own.
 pub fn next_on<R: Wait>(pass: &mut TablePass<'_>, rt: &R, way: &mut Way, key: u64) -> Option<Pair>
     requires reads { IsReading pass.old.view }
     requires kept { IsKeptWay pass.old.view way.old }
@@ -96,7 +96,7 @@ pub fn next_on<R: Wait>(pass: &mut TablePass<'_>, rt: &R, way: &mut Way, key: u6
     unreachable!()
 }
 
-/// As `next_on`, from the root of the tree on, and no search is kept: for a caller that looks for one pair.
+/// As `next_on`, but from the root of the tree, and no search is kept: for a caller that looks for one pair.
 pub fn next_from<R: Wait>(pass: &mut TablePass<'_>, rt: &R, key: u64) -> Option<Pair>
     requires reads { IsReading pass.old.view }
     ensures same { IsSamePass pass.old pass.new }

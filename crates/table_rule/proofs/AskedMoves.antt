@@ -1,4 +1,4 @@
--- What the calls of the kit's table ask before a move that is asked for as an event, and what they tell after it.
+-- What the calls of the kit's table ask before a move that is asked for as an event, and what they report after it.
 use Rattle.std.proofs.Common.{◌≡◌, ℕ, ◌+◌, ◌%◌, ◌^◌, ◌<◌, [], cond, eqb, Bool, true, false, refl, ap, ◌∙◌, sym, subst, arith, Some, slice_index}
 use prog.Atomic.{either}
 use Rattle.std.specs.List.{slice_get}
@@ -52,7 +52,7 @@ add_puts z v e is zero words vs rule at met =
     let small : n + 1 < 2 ^ 64 = stored_small z words words vs vs e Stamp (allowed (table z words vs) e) rule (sym named) refl refl may met is in
     raise_word e.kind e.value n is ∙ wraps_not n small
 
--- what a move that finds its word tells, and what a store does
+-- what a move that finds its word reports, and what a store does
 abbrev pub finds : Event → Me ℕ View → ℕ → Me ℕ View → Type 0
 finds e me n x = (x.1 ≡ me.1) × Happened me.0.layout e me.0 n x.0
 

@@ -1,5 +1,5 @@
--- Steps of the running table as events of the pure machine. Of what the other seats have done, only that is known which
--- the rule and the seat's own view tell.
+-- Steps of the running table as events of the pure machine. Of what the other seats have done, only what the rule and
+-- the seat's own view say is known.
 use Rattle.std.specs.Prelude.{◌≡◌, ℕ, List, slice_index, true, Some, ⊤}
 use Rattle.std.specs.List.{slice_get}
 use Rattle.index_words.specs.declared.layout.Layout.{Layout}
@@ -45,7 +45,7 @@ pub record Happened (z : Layout) (e : Event) (v : View) (n : ℕ) (w : View) : T
   pub found : n ≡ slice_index words e.word
   pub view : slice_get (after (table z words views) e).views e.seat ≡ Some w
 
--- the same without the word found, which a store does not tell
+-- the same without the word found, which a store does not report
 abbrev pub Stored : Layout → Event → View → View → Type 0
 Stored z e v w = (n : ℕ) × Happened z e v n w
 

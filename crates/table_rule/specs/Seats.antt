@@ -12,7 +12,7 @@ use Rattle.core_laws.specs.ViewNeeds.{event_at}
 use Rattle.table_rule.specs.Running.{table}
 
 -- a split has happened: in a table that met the rule a seat had the view `v`, the split was allowed, and in the table
--- after it this seat has the view `w`, and the new one, behind the others, the view `u`
+-- after it this seat has the view `w`, and the new one, after the others, the view `u`
 pub record Split (z : Layout) (v : View) (nodes : ℕ) (w u : View) : Type 0 where
   pub words : List ℕ
   pub views : List View
@@ -23,15 +23,16 @@ pub record Split (z : Layout) (v : View) (nodes : ℕ) (w u : View) : Type 0 whe
   pub left : slice_get (after (table z words views) (event_at z seat SplitSeat Stamp nodes)).views seat ≡ Some w
   pub right : slice_get (after (table z words views) (event_at z seat SplitSeat Stamp nodes)).views (length views) ≡ Some u
 
--- a join of two seats of one table: it is allowed, the first seat, which had the view `v`, has the view `w` after it, and nothing
--- is left of the second one's view
+-- a join of two seats of one table: it is allowed, the first seat, which had the view `v`, has the view `w` after it,
+-- and nothing is left of the second one's view
 pub record JoinsInto (z : Layout) (words : List ℕ) (views : List View) (seat other : ℕ) (w : View) : Type 0 where
   pub met : allowed (table z words views) (event_at z seat JoinSeat Stamp other) ≡ true
   pub both : slice_get (after (table z words views) (event_at z seat JoinSeat Stamp other)).views seat ≡ Some w
   pub spent : slice_get (after (table z words views) (event_at z seat JoinSeat Stamp other)).views other ≡ Some spent_view
 
--- a join has happened, of a seat with the view `u` into one with the view `v`, which has the view `w` then. The kit's table tells
--- of no state at which both stood, so this is said of each: whatever the table was that met the rule and had these two seats
+-- a join has happened, of a seat with the view `u` into one with the view `v`, which has the view `w` then. The kit's
+-- table names no state at which both stood, so this is said of each: whatever the table was that met the rule and
+-- had these two seats
 pub record Join (z : Layout) (v u w : View) : Type 0 where
   pub event : (words : List ℕ) (views : List View) (seat other : ℕ) → InRule z words views → other ≢ seat → slice_get views seat ≡ Some v
       → slice_get views other ≡ Some u → JoinsInto z words views seat other w

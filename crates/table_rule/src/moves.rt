@@ -23,7 +23,7 @@ impl Asked for Brand {
     ghost event = { record { seat = 0; kind = MakeSeat; word = 0; value = 0; update = None } };
 }
 
-/// What a load tells, and a move that finds the word: the event, with the word found.
+/// What a load, or another move that finds the word, reports: the event, with the word found.
 pub struct Found<E: Asked> {
     event: PhantomData<E>,
 }
@@ -35,7 +35,7 @@ impl<E: Asked> Play<u8, View> for Found<E> {
     ghost then = { λ s m n w. (w.1 ≡ m.1) × Happened m.0.layout E.event m.0 n w.0 };
 }
 
-/// What a store tells: the event.
+/// What a store reports: the event.
 pub struct Puts<E: Asked> {
     event: PhantomData<E>,
 }
@@ -75,8 +75,8 @@ impl RuledTable {
             .store::<Puts<E>>(&mut seat.seat, at, value);
     }
 
-    /// Adds one to the stamp, and answers what it was. Of a raise alone: it is below its last value then. The update
-    /// that is raised is there for the event.
+    /// Adds one to the stamp, and answers what it was. Only for a raise: the stamp is below its last value then. The
+    /// update that is raised is needed for the event alone.
     pub fn add<E: Asked>(&self, seat: &mut TableSeat, update: &Update) -> u64
         requires asks { Asks self.now seat.old Word.Stamp E.event }
         requires kind { E.event.kind ≡ Raise }
@@ -91,7 +91,7 @@ impl RuledTable {
             .fetch_add::<Found<E>>(&mut seat.seat, 0, 1)
     }
 
-    /// Stores a value to a word where the word is 0, and answers what it was. Of a try of a lock alone.
+    /// Stores a value to a word where the word is 0, and answers what it was. Only for a try of a lock.
     pub fn exchange<E: Asked>(&self, seat: &mut TableSeat, word: Word, value: u64) -> u64
         requires asks { Asks self.now seat.old word E.event }
         requires kind { E.event.kind ≡ TryLock }

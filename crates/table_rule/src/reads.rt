@@ -21,7 +21,7 @@ impl Play<u8, View> for Tells {
 
 impl RuledTable {
     /// Loads a word again of which the seat knows what it holds: what the rule says of the word and the seat's view is
-    /// so of the number found.
+    /// true of the number found.
     pub fn read(&self, seat: &mut TableSeat, word: Word) -> u64
         requires of { IsOf self.now seat.old }
         requires there { is_there self.now.layout word ≡ true }
@@ -32,15 +32,15 @@ impl RuledTable {
         self.table.shared.load::<Tells>(&mut seat.seat, at)
     }
 
-    /// Loads what holds a node's plain links into the processor's cache. A node's key and its links lie apart in memory,
-    /// so a search that loads the one then finds the others near. Where there is no such node it does nothing. Nothing
-    /// is known from it.
+    /// Loads what holds a node's plain links into the processor's cache. A node's key and its links lie apart in
+    /// memory, so a search that loads the key finds the links in the cache then. Where there is no such node it does
+    /// nothing. Nothing is known from it.
     pub fn fetch_links(&self, node: u32) {
         self.glance(Word::Node(Field::Link(Side::Right), node));
     }
 
-    /// Loads the key of the node behind a plain link into the processor's cache, where there is one. Nothing is known
-    /// from it: it need not be the child that a bundle tells.
+    /// Loads the key of the node to which a plain link leads into the processor's cache, where there is one. Nothing is
+    /// known from it: it need not be the child that a bundle has.
     #[inline(always)]
     pub fn fetch_child(&self, node: u32, side: Side) {
         if let Some(child) = self.glance(Word::Node(Field::Link(side), node))

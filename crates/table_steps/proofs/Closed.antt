@@ -47,7 +47,7 @@ places_to_own P h made own all = every_map P made.updates (subst (Every P) own.p
 each_weaker : (P Q : ℕ → Type 0) (keys : List Pass) → ((at : ℕ) → P at → Q at) → EachPlace P keys → EachPlace Q keys
 each_weaker P Q keys weaker = every_weaker (λ (k : Pass). Every P k.view.history.mine) (λ (k : Pass). Every Q k.view.history.mine) keys (λ k. every_weaker P Q k.view.history.mine weaker)
 
--- the last place of one key more
+-- the last place with one more key
 pub last_more : (key : Pass) (rest : List Pass) (made : Made) (n m : ℕ) → KeepsOwn key.view.history made → IsLastPlace rest n → n ≤ m
     → Every (λ (u : OwnUpdate). u.at ≤ m) made.updates → ((limit : ℕ) → n ≤ limit → Every (λ (u : OwnUpdate). u.at ≤ limit) made.updates → m ≤ limit)
     → IsLastPlace (key ∷ rest) m
@@ -172,7 +172,7 @@ each_place R all keys own each made i u here =
     let still : 1 + i ≡ suc i = omega arith in
     subst R still (own_here R u.client 1 all (at_each R all u.client keys own each (every_at (λ (x : Update). 0 < count x.client (map number_of keys)) all i u made here)) i u here refl)
 
--- so the last place is the length of the history
+-- the last place is the length of the history
 long_as : {X : Type 0} (at limit : ℕ) (xs : List X) → at ≤ limit → ((i : ℕ) (x : X) → slice_get xs i ≡ Some x → at + suc i ≤ limit) → at + length xs ≤ limit
 long_as at limit [] low each = omega (arith, low)
 long_as at limit (x ∷ xs) low each =
@@ -192,7 +192,7 @@ same_items (x ∷ xs) (y ∷ ys) long each =
     ap (λ u. u ∷ xs) (same_Some x y (each 0 y refl)) ∙ ap (λ us. y ∷ us) (same_items xs ys (omega (arith, long)) (λ i u is. each (suc i) u is))
 same_items _ _ long each = absurd (omega (arith, long))
 
--- a list that is as long as the last place says, and right at each place of the keys, is the history
+-- a list that is as long as the last place, and right at each place of the keys, is the history
 pub whole_is : (all xs : List Update) (keys : List Pass) (last : ℕ) → StandAtOwnPlaces keys all → AreMadeBy keys all → IsLastPlace keys last → length xs ≡ last → EachPlace (IsRightAt all xs) keys → xs ≡ all
 whole_is all xs keys last own made is long filled =
     let low : 0 + length all ≤ last = long_as 0 last all (omega arith) (λ i u here. omega (arith, each_place (λ at. at ≤ last) all keys own is.above made i u here)) in
@@ -214,7 +214,7 @@ every_here P xs all k x is = every_at P xs k x all is
 here_is : {X : Type 0} (xs : List X) (i : ℕ) (d : X) → i < length xs → slice_get xs i ≡ Some (get_or xs i d)
 here_is xs i d low = slice_get-get_or xs i d low
 
--- what holds of each item below a place, and of the item there, holds of each below the next place
+-- what holds of each item below a place, and of the item there, holds of each item below the next place
 pub one_more : {X : Type 0} (P : X → Type 0) (xs : List X) (i : ℕ) (d : X) → i < length xs → ((k : ℕ) (x : X) → k < i → slice_get xs k ≡ Some x → P x) → P (get_or xs i d)
     → (k : ℕ) (x : X) → k < i + 1 → slice_get xs k ≡ Some x → P x
 one_more P xs i d low before here k x less is =

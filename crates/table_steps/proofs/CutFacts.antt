@@ -34,7 +34,7 @@ use Rattle.table_steps.specs.Cuts.{CanCut}
 use Rattle.table_steps.specs.Raises.{HoldsNext, HoldsChain}
 use Rattle.table_steps.proofs.RaiseFacts.{chain_known, head_known, held_live_node}
 
--- an entry whose next was loaded is held with it
+-- an entry whose next was loaded is kept together with it
 pub walked_next : (v : View) (k d number n : ℕ) → HasWalkedAt v k d number n → HoldsNext v k d n
 walked_next v k d number n by = record {
   place = by.place;
@@ -71,7 +71,7 @@ module _ (z : Layout) (words : List ℕ) (vs : List View) (right : InRule z word
   unwritten : stamp 0 ≡ 0
   unwritten = refl
 
-  -- an entry with a written number is none but 0
+  -- an entry with a written number is not 0
   walked_some : (d number n : ℕ) → HasWalkedAt v k d number n → 0 < d
   walked_some d number n by = by_size (cases_lt 0 d)
     where
@@ -133,7 +133,7 @@ module _ (z : Layout) (words : List ℕ) (vs : List View) (right : InRule z word
       subst (λ (xs : List ℕ). length xs ≤ m Stamp + 1) splits
       (bundle_few (m Stamp) (suc no_number) stamp g.bundles.number (g.bundles.bundle side k) bundle.numbers bundle.tail bundle.falls)
 
-  -- what stands behind the entry is what the pass has found there
+  -- what stands after the entry is what the pass has found there
   pub cut_off_known : cut_off z m e ≡ can.back
   cut_off_known =
       entries_from_is z.entries next (m Stamp + 1) (next e) can.back (chain_behind next (m (Node (Head side) k)) e may.front can.back chain) back_there

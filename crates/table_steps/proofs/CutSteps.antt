@@ -53,11 +53,11 @@ module _ (home : Home) (s : Sat) (k : Kept) (keeps : Keeps s.view k) (of : IsOf 
       happened_view z cut_event v w h.0 (Entry Next entry) entry_there refl tt h.1
       ∙ ap (cut_view v entry) (cut_off_known z h.1.words h.1.views h.1.rule s.seat v h.1.seat node side entry can)
 
-  -- the entry and those behind it are what the pass has found
+  -- the entry and those after it are what the pass has found
   pub cut_chain : HoldsChain v node entry (entry ∷ can.back)
   cut_chain = (refl, can.may.some, (can.may.next, walked_next v node entry can.may.number can.may.next can.may.here, can.behind))
 
-  -- what is kept at run time with the entries behind retired
+  -- what is kept at run time, with the entries after it retired
   module _ (w : View) (h : Stored z cut_event v w) where
     pub cut_keeps : (slots : KeptSlots) → slots ≡ with_retired [] can.back k.slots
         → Keeps w (record { number = k.number; section_word = k.section_word; left = k.left; opened = k.opened; slots = slots; updates = k.updates; raised = k.raised })
@@ -108,7 +108,7 @@ module _ (home : Home) (s : Sat) (k : Kept) (keeps : Keeps s.view k) (of : IsOf 
       looks = omega (arith, back_sum, ap (λ (y : Layout). y.entries) of.layout);
     }
 
--- what the cut would leave tells that there is room, before it is made
+-- what the cut would leave says, before it is made, that there is room
 pub room_ahead : (home : Home) (s : Sat) (k : Kept) → Keeps s.view k → IsOf home s → IsLiveView s.view → (entry node : ℕ) (side : Side) (can : CanCut s.view node side entry) → HasRoomFor [] can.back home.layout.entries k.slots
 room_ahead home s k keeps of live entry node side can =
     let z : Layout = home.layout in

@@ -36,7 +36,7 @@ not_less a b le = grind (arith, nat_tests)
 pub longer_same : (xs ys : List Update) → length ys ≤ length xs → longer xs ys ≡ xs
 longer_same xs ys le = ap (λ b. cond b ys xs) (not_less (length xs) (length ys) le)
 
--- what was told is a beginning of what is seen
+-- what was reported is a beginning of what is seen
 pub told_begins : (v : View) → IsLiveView v → Extends v.history.told v.history.seen
 told_begins v live =
     let right : RightSeat v = live_seat v live in
@@ -65,7 +65,7 @@ module _ (v u x w : View) (one : x ≡ joined_with v u) (two : w ≡ joined_with
 both_none : (s : Slots) → both s no_slots ≡ s
 both_none s = ap (λ ns. record { nodes = ns; entries = s.entries ++ [] }) (append-nil s.nodes) ∙ ap (λ es. record { nodes = s.nodes; entries = es }) (append-nil s.entries)
 
--- a pass that heard a note owns what it owned
+-- a pass that heard a note owns what it owned before
 module _ (v u w : View) (seen : List Update) (z : Layout) (note : u ≡ note_view z seen) (is : w ≡ joined_with (joined_with v u) (split_right v 0)) where
   joined_is : w ≡ joined_with (joined_with v (note_view z seen)) (split_right v 0)
   joined_is = is ∙ ap (λ (y : View). joined_with (joined_with v y) (split_right v 0)) note

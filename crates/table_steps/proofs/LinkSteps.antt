@@ -1,5 +1,5 @@
--- Each step on a plain link and on its tag: that it may be made, what it leaves in the view, and that what is kept at run time
--- still is what the view says.
+-- Each step on a plain link and on its tag: that it may be made, what it leaves in the view, and that what is kept at
+-- run time still is what the view says.
 use Rattle.std.proofs.Common.{◌≡◌, ℕ, ◌+◌, ◌<◌, ◌≤◌, ◌^◌, true, leb, arith, refl, ap, ◌∙◌, subst, inl, inr, List, Option, Some}
 use Rattle.std.specs.Prelude.{IfSome}
 use Rattle.std.specs.List.{slice_get}

@@ -96,14 +96,14 @@ module _ (t : Table) (right : IsRight t) (i : ℕ) (v : View) (at : IsItem t.vie
   in_table k side d live (inl none) = omega (arith, none)
   in_table k side d live (inr here) = entry_there t.layout t.views g rule.slots k d live (in_entries g.bundles k d side here)
 
-  -- the head of a bundle of a node in reach
+  -- the head of a bundle of a reachable node
   pub head_low : (node : ℕ) (side : Side) → IsInReach v node → m (Node (Head side) node) ≤ t.layout.entries
   head_low node side reach =
       let live = reachable_live t.layout t.views g rule.slots i node v at (reach_is t.layout v node (reach_high node reach) (reaches v node reach)) in
       let bundle = rule.bundles node live side in
       in_table node side (m (Node (Head side) node)) live (chain_head (λ d. m (Entry Next d)) (m (Node (Head side) node)) (g.bundles.bundle side node) bundle.chain)
 
-  -- the next of the entry at which the seat stands, in a bundle that stays for it
+  -- the next of the entry at which the seat stands, in a bundle that stays for the seat
   pub next_low : (e : ℕ) (here : IsAtEntry v e) → IsWatched v here.node → m (Entry Next e) ≤ t.layout.entries
   next_low e here watched =
       let next : ℕ → ℕ = λ d. m (Entry Next d) in

@@ -113,7 +113,7 @@ module _ (home : Home) (s : Sat) (of : IsOf home s) where
   abbrev z : Layout
   z = home.layout
 
-  -- a node in reach is one of the table
+  -- a reachable node is one of the table
   pub reach_there : (field : Field) (k : ℕ) → IsLiveView v → IsInReach v k → is_there z (Node field k) ≡ true
   reach_there field k live reach =
       let stands : Stands v.layout v = live.stands in

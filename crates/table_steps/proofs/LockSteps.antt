@@ -1,5 +1,5 @@
--- The try of a lock: that it may be made, what it leaves in the view, and that what is kept at run time still is what the
--- view says.
+-- The try of a lock: that it may be made, what it leaves in the view, and that what is kept at run time still is what
+-- the view says.
 use Rattle.std.proofs.Common.{◌≡◌, ℕ, ◌+◌, ◌<◌, cond, Bool, true, false, eqb, arith, refl, ap, ◌∙◌, sym, subst, inl, inr}
 use Rattle.std.proofs.lemmas.Bool.{eq-eqb, ne_eqb, cases_lt}
 use Rattle.index_words.specs.declared.layout.Layout.{Layout}
@@ -26,7 +26,7 @@ use Rattle.table_steps.specs.declared.kept.Kept.{Kept}
 use Rattle.table_steps.proofs.LoadSteps.{own_part, keeps_same, pass_of, asks_of, high_there}
 use Rattle.table_steps.proofs.There.{searched_high}
 
--- a view after a try of a lock has the own parts as they were
+-- a view after a try of a lock has its own parts unchanged
 tried_own : (b : Bool) (v : View) (node own found : ℕ) → own_part (cond b (locked_view v node) (met_lock v own found)) ≡ own_part v
 tried_own true v node own found = refl
 tried_own false v node own found = refl

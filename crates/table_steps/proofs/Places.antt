@@ -1,4 +1,4 @@
--- The steps at which a pass finds a place: what it does before and behind them.
+-- The steps at which a pass finds a place: what the pass does before and after them.
 use Rattle.std.proofs.Common.{◌≡◌, ℕ, ◌+◌, ◌≤◌, refl, ◌∙◌, subst, arith}
 use Rattle.index_words.specs.declared.layout.Layout.{Layout}
 use Rattle.index_words.specs.declared.view.View.{View}
@@ -29,7 +29,7 @@ raised_later p q u at w same mine is = record {
   last = is.last;
 }
 
--- steps behind it
+-- steps after it
 pub raised_before : (p : Pass) (u : Update) (at : ℕ) (w x : View) → x.history.mine ≡ w.history.mine → IsRaisedSince p u at w → IsRaisedSince p u at x
 raised_before p u at w x mine is = record {
   before = is.before;

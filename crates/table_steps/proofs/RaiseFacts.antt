@@ -1,4 +1,5 @@
--- What a seat holds of the bundles of its locked nodes is what the words say, so it knows which entries its raise retires.
+-- What a seat holds of the bundles of its locked nodes is what the words say, so it knows which entries its raise
+-- retires.
 use Rattle.std.proofs.Common.{◌≡◌, ℕ, zero, suc, ◌+◌, ◌<◌, ◌≤◌, List, [], ◌∷◌, ◌++◌, cond, false, eqb, arith, refl, ap, ◌∙◌, sym, subst, inl, inr, Option, Some, None}
 use Rattle.std.specs.Prelude.{IfSome}
 use Rattle.std.specs.List.{slice_get}

@@ -168,7 +168,7 @@ module _ (v w : View) (u : Update) (new out : List ℕ) (at : ℕ) (gives : HasR
     raised = subst (λ (y : Updating). IfSome y.raised (λ n. n ≡ at)) (sym (ap (λ (y : View). y.update) gives.view)) (sym gives.place);
   }
 
-  -- what the pass has found of its locked nodes, it knows behind the raise too
+  -- what the pass has found of its locked nodes, it also knows after the raise
   pub raise_holds : HoldsEntries w (nodes_out out) gives.entries
   raise_holds = entries_on v w (ap (λ (y : View). y.held) gives.view) (nodes_out out) gives.entries gives.holds
 

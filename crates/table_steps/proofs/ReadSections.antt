@@ -23,7 +23,7 @@ use Rattle.table_steps.proofs.Views.{Work, entered_work, rest_reading}
 pub within_history : (v : View) → (entered v.layout.passes v (v.section_word + 1)).history ≡ v.history
 within_history v = ap (λ (p : SeatPart). p.history) (entered_part v.layout.passes (v.section_word + 1) v)
 
--- behind an enter nothing is read, and nothing is announced
+-- after an enter nothing is read, and nothing is announced
 module _ (v : View) (live : IsLiveView v) (rest : AtRest v) where
   abbrev within : View
   within = entered v.layout.passes v (v.section_word + 1)
@@ -35,7 +35,7 @@ module _ (v : View) (live : IsLiveView v) (rest : AtRest v) where
   within_part : part_of within ≡ part_of (record v { section_word = v.section_word + 1; reading = nowhere v.reading })
   within_part = entered_part v.layout.passes (v.section_word + 1) v
 
-  -- from the enter over the first load of the stamp to the announcement
+  -- from the enter through the first load of the stamp to the announcement
   module _ (e : View) (is : e ≡ within) where
     pub may_load : Inside e → MayLoadStamp e
     may_load inside = record {
@@ -117,7 +117,7 @@ module _ (v x w : View) (is : x ≡ left v (left_word v.section_word)) (outside 
     unannounced = ap (λ (u : View). u.announced) back;
   }
 
--- what a pass has seen goes on over both loads
+-- what a pass has seen goes on through both loads
 pub opened_extends : (p : Pass) (fixes n : ℕ) (w : View) → HasOpened p fixes n w → Extends p.view.history.seen w.history.seen
 opened_extends p fixes n w opened =
     let more = opened.extends in

@@ -22,7 +22,7 @@ chain_once v live node other head xs ys one two =
     chain-same (λ e. memory v.layout s.words (Entry NextPart e)) head xs ys (chain_known v.layout s.words s.views s.rule s.seat v s.at node head xs one)
     (chain_known v.layout s.words s.views s.rule s.seat v s.at other head ys two)
 
--- the first entry of a chain whose head is not 0, and those behind it
+-- the first entry of a chain whose head is not 0, and those after it
 pub record Behind (v : View) (node entry : ℕ) (rest : List ℕ) : Type 0 where
   pub tail : List ℕ
   pub are : rest ≡ entry ∷ tail
@@ -88,7 +88,7 @@ pub entry_room : (s t : KeptSlots) (es : List ℕ) (i limit : ℕ) → t ≡ wit
 entry_room s t es i limit is low room =
     omega (arith, ap (λ (k : KeptSlots). entry_count k) is, ap (λ (k : KeptSlots). k.entry_room) is, length-append s.retired.entries (take i es), length-take-le i es (omega (arith, low)), low, room.entries)
 
--- the room that is left for what comes behind
+-- the room that is left for what comes after
 pub room_after : (s t : KeptSlots) (ns ms es fs : List ℕ) (limit : ℕ) → HasRoomFor (ns ++ ms) (es ++ fs) limit s → t ≡ with_retired ns es s → HasRoomFor ms fs limit t
 room_after s t ns ms es fs limit room is = record {
   nodes = omega (arith, room.nodes, ap (λ (k : KeptSlots). node_count k) is, ap (λ (k : KeptSlots). k.node_room) is, length-append ns ms, length-append s.retired.nodes ns);

@@ -1,5 +1,5 @@
--- Each step of a section: that it may be made, what it leaves in the view, and that what is kept at run time still is what
--- the view says.
+-- Each step of a section: that it may be made, what it leaves in the view, and that what is kept at run time still is
+-- what the view says.
 use Rattle.std.proofs.Common.{◌≡◌, ◌≢◌, ℕ, ◌+◌, ◌<◌, ◌≤◌, cond, List, length, eqb, Bool, true, false, ltb, ◌&&◌, arith, refl, ap, ◌∙◌, sym, subst, Option, Some, None}
 use Rattle.std.proofs.lemmas.Bool.Decides.{nat_tests}
 use Rattle.index_words.specs.declared.layout.Layout.{Layout}
@@ -62,7 +62,7 @@ pub keeps_moved : (v w : View) (k : Kept) (word : ℕ) (slots : KeptSlots) → K
 keeps_moved v w k word slots keeps same kept room still =
     keeps_opened v w k word k.opened slots keeps (same ∙ ap (λ o. record (part_of v) { word = word; section = w.reading.section; opened = o }) keeps.opened) kept room still
 
--- a view whose own parts are as they were
+-- a view whose own parts are unchanged
 part_moved : (v w : View) (word : ℕ) → part_of w ≡ part_of v → v.section_word ≡ word → part_of w ≡ record (part_of v) { word = word; section = w.reading.section }
 part_moved v w word same is =
     same ∙ ap (λ x. record (part_of v) { word = x }) is

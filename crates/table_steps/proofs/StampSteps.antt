@@ -1,5 +1,5 @@
--- The loads of the stamp, and the announcements: that each may be made, what it leaves in the view, and that what is kept at run
--- time still is what the view says.
+-- The loads of the stamp, and the announcements: that each may be made, what it leaves in the view, and that what is
+-- kept at run time still is what the view says.
 use Rattle.std.proofs.Common.{◌≡◌, ℕ, ◌<◌, ◌≤◌, ◌==◌, ◌++◌, List, length, take, drop, cond, not, eqb, ltb, Bool, true, false, arith, refl, ap, ◌∙◌, sym, subst, Option, Some, None}
 use Rattle.std.specs.Prelude.{IfSome, min}
 use Rattle.std.proofs.lemmas.Bool.Decides.{nat_tests}
@@ -134,7 +134,7 @@ module _ (home : Home) (s : Sat) (k : Kept) (keeps : Keeps s.view k) (of : IsOf 
       unlocked = ap (λ (u : View). u.held.nodes) w_is ∙ inside.unlocked;
     }
 
-    -- no snapshot is open behind a load that fixes no place, and one is open behind a load that does
+    -- no snapshot is open after a load that fixes no place, and one is open after a load that does
     pub load_opened : fixes ≡ 0 → v.reading.opened ≡ None → w.reading.opened ≡ None
     load_opened plain closed = by_test (not (v.announced == 0)) refl
       where

@@ -1,5 +1,5 @@
--- Each step of an update beside its raise: that it may be made, what it leaves in the view, and that what is kept at run time
--- still is what the view says.
+-- Each step of an update apart from its raise: that it may be made, what it leaves in the view, and that what is kept
+-- at run time still is what the view says.
 use Rattle.std.proofs.Common.{◌≡◌, ℕ, ◌+◌, ◌<◌, ◌≤◌, List, [], ◌∷◌, length, cond, Bool, true, false, eqb, ltb, leb, ◌&&◌, arith, refl, ap, ◌∙◌, sym, subst, Option, Some}
 use Rattle.std.specs.Prelude.{IfSome}
 use Rattle.std.proofs.lemmas.Bool.Decides.{nat_tests}

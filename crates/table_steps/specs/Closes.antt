@@ -40,6 +40,6 @@ pub record IsLastPlace (keys : List Pass) (n : ℕ) : Type 0 where
 abbrev pub IsRightAt : List Update → List Update → ℕ → Type 0
 IsRightAt history updates at = update_at updates at ≡ update_at history at
 
--- of the list no right place was made wrong
+-- no place that was right becomes wrong
 abbrev pub StaysRight : List Update → List Update → List Update → Type 0
 StaysRight history old new = (at : ℕ) → IsRightAt history old at → IsRightAt history new at

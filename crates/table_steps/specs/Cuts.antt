@@ -15,16 +15,16 @@ use Rattle.table_steps.specs.Raises.{HoldsChain}
 abbrev pub cutting : Pass → ℕ → Event
 cutting p entry = event_at p.view.layout p.seat Cut (Entry Next entry) 0
 
--- the pass may cut behind the entry, and has found these entries behind it: all that there are, down to the last one
+-- the pass may cut after the entry, and has found these entries after it: all that there are, down to the last one
 pub record CanCut (v : View) (node : ℕ) (side : Side) (entry : ℕ) : Type 0 where
   pub may : MayCut v node side entry
   pub back : List ℕ
   pub behind : HoldsChain v node may.next back
 
--- it can cut behind the entry, in a bundle of some node
+-- it can cut after the entry, in a bundle of some node
 abbrev pub CanCutBehind : View → ℕ → Type 0
 CanCutBehind v entry = (node : ℕ) × (side : Side) × CanCut v node side entry
 
--- behind a cut the entries that were found behind are retired, and nothing of them is known any more
+-- after a cut the entries that were found after it are retired, and nothing of them is known any more
 abbrev pub HasCut : View → ℕ → View → Type 0
 HasCut v entry w = (node : ℕ) (side : Side) (can : CanCut v node side entry) → w ≡ cut_view v entry can.back

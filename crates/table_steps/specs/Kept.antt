@@ -1,13 +1,13 @@
--- What a pass keeps at run time, beside what its view says.
+-- What a pass keeps at run time, besides what its view says.
 use Rattle.std.specs.Prelude.{◌≡◌, ◌<◌, ◌≤◌, Some, IfSome}
 use Rattle.index_words.specs.declared.view.View.{View}
 use Rattle.pass_slots.specs.Owned.{KeepsSlots}
 use Rattle.table_steps.specs.Made.{KeepsOwn}
 use Rattle.table_steps.specs.declared.kept.Kept.{Kept}
 
--- what is kept of the number, the own section word, the calls left, the open snapshot, the slots, the own updates, the place
--- of an update that has raised is what the view says; the pass is one of a table of at most 32, and has
--- room for all slots of its table
+-- what is kept of the number, the own section word, the calls left, the open snapshot, the slots, the own updates and
+-- the place of an update that has raised is what the view says; the pass is one of a table of at most 32, and has room
+-- for all slots of its table
 pub record Keeps (v : View) (k : Kept) : Type 0 where
   pub number : v.number ≡ Some k.number
   pub there : k.number < v.layout.passes

@@ -1,3 +1,4 @@
+-- What the steps of the running table ask and leave, and what a pass keeps at run time.
 pub mod Passes
 pub mod Made
 pub mod Kept

@@ -17,6 +17,6 @@ loading_tag p node side = event_at p.view.layout p.seat LoadTag (Node (Tag side)
 abbrev pub setting_link : Pass → ℕ → Side → ℕ → Event
 setting_link p node side child = event_at p.view.layout p.seat SetLink (Node (Link side) node) child
 
--- a tag is one more than it was
+-- a tag is one more than before
 abbrev pub setting_tag : Pass → ℕ → Side → ℕ → Event
 setting_tag p node side tag = event_at p.view.layout p.seat SetTag (Node (Tag side) node) (tag + 1)

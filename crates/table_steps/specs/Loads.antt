@@ -50,8 +50,8 @@ pub record HasLoadedHead (v : View) (node : ℕ) (side : Side) (entry : ℕ) (w 
 abbrev pub IsTreeLink : View → ℕ → Side → Type 0
 IsTreeLink v node side = ((node ≡ 0) × (side ≡ Right)) ⊎ (0 < count node (tree_slots v.reading.tree))
 
--- the seat stands at this entry of a link of the tree that it reads, whose number it found to be at most its section
--- number; it has not locked the node
+-- the seat stands at this entry of a link of the tree that it reads, and has found the entry's number to be at most its
+-- section number; it has not locked the node
 pub record IsAtSelected (v : View) (entry : ℕ) : Type 0 where
   pub at : IsAtEntry v entry
   pub link : IsTreeLink v at.node at.side
@@ -68,15 +68,15 @@ pub record FoundChild (p : Pass) (entry found : ℕ) (w : View) : Type 0 where
   pub event : Happened p.view.layout (loading_child p entry) p.view found w
   pub view : w ≡ ptr_loaded p.view found
 
--- a load of a child answers the word found where that is a node of the table or 0, and else 0. Only in an entry that is
--- not selected can the word be above: one that is prepared holds there what its pass has filled in
+-- a load of a child answers the word found if that is a node of the table or 0, and else 0. Only in an entry that is
+-- not selected can the word be above: an entry that is prepared holds there what its pass has filled in
 pub record HasLoadedChild (p : Pass) (entry answer : ℕ) (w : View) : Type 0 where
   pub found : ℕ
   pub gives : FoundChild p entry found w
   pub node : found ≤ p.view.layout.nodes → answer ≡ found
   pub other : p.view.layout.nodes < found → answer ≡ 0
 
--- a load of a mark found this word. Where the pass has locked the node and its update did not take it out, that is 0 or 1
+-- a load of a mark found this word. If the pass has locked the node and its update did not take it out, it is 0 or 1
 pub record HasLoadedMark (p : Pass) (node : ℕ) (marked : Bool) (w : View) : Type 0 where
   pub found : ℕ
   pub event : Happened p.view.layout (loading_mark p node) p.view found w

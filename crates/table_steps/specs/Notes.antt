@@ -9,7 +9,7 @@ use Rattle.table_rule.specs.Homes.{Sat}
 use Rattle.table_rule.specs.Seats.{Split, Join}
 use Rattle.table_steps.specs.Passes.{Pass, Extends}
 
--- the view of a note: without a number, it has seen so much, and owns nothing
+-- the view of a note: without a number, it has seen this much, and owns nothing
 abbrev pub note_view : Layout → List Update → View
 note_view z seen = record (empty_view z) { history = record (empty_view z).history { seen = seen } }
 
@@ -19,7 +19,7 @@ pub record IsNoteOf (p : Pass) (s : Sat) : Type 0 where
   pub layout : s.view.layout ≡ p.view.layout
 
 -- the events of a hearing, by a seat with the view `v`, of another one with the view `u`: a copy of the seat is split
--- off, the other one is joined into the seat, and so is the copy; the seat has the view `w` then
+-- off, the other one is joined into the seat, and then the copy is; the seat then has the view `w`
 pub record Hearing (z : Layout) (v u w : View) : Type 0 where
   pub copy : View
   pub split : Split z v 0 v copy
@@ -27,12 +27,12 @@ pub record Hearing (z : Layout) (v u w : View) : Type 0 where
   pub first : Join z v u told
   pub second : Join z told copy w
 
--- the places of the pass's own updates are just those at which updates of its number stand in what it has seen
+-- the places of the pass's own updates are exactly those at which updates of its number stand in what it has seen
 abbrev pub KnowsOwn : Pass → Type 0
 KnowsOwn p = p.view.history.mine ≡ own_places p.number p.view.history.seen
 
 -- the view has heard of these updates: what it has seen begins with what it had seen, and with them. Its own updates,
--- its slots, its locks, its snapshot and what it may still do are as they were
+-- its slots, its locks, its snapshot and what it may still do are unchanged
 pub record HasHeard (v : View) (news : List Update) (w : View) : Type 0 where
   pub old : Extends v.history.seen w.history.seen
   pub told : Extends news w.history.seen

@@ -20,8 +20,8 @@ pub record IsParcelOf (p : Pass) (s : Sat) : Type 0 where
   pub id : s.id ≡ p.id
   pub layout : s.view.layout ≡ p.view.layout
 
--- a node went or came. What the view has seen goes on; its own updates, its entries, what is retired or waits, its
--- locks, its snapshot and what it may still do are as they were
+-- a node was lent or adopted. What the view has seen goes on; its own updates, its entries, what is retired or waits,
+-- its locks, its snapshot and what it may still do are unchanged
 pub record HasTraded (v w : View) : Type 0 where
   pub seen : Extends v.history.seen w.history.seen
   pub mine : w.history.mine ≡ v.history.mine
@@ -36,12 +36,12 @@ pub record HasTraded (v w : View) : Type 0 where
   pub retired : w.retired ≡ v.retired
   pub batch : w.batch ≡ v.batch
 
--- the first free node went away
+-- the first free node was lent
 pub record HasLent (v : View) (node : ℕ) (w : View) : Type 0 where
   pub traded : HasTraded v w
   pub nodes : v.free.nodes ≡ node ∷ w.free.nodes
 
--- a node came, and is free
+-- a node was adopted, and is free
 pub record HasAdopted (v : View) (node : ℕ) (w : View) : Type 0 where
   pub traded : HasTraded v w
   pub nodes : w.free.nodes ≡ v.free.nodes ++ node ∷ []

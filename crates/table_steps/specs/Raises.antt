@@ -43,11 +43,12 @@ new_entries_of new = listed_entry (new_left new) ++ listed_entry (new_right new)
 abbrev pub nodes_out : List ℕ → List ℕ
 nodes_out out = listed_entry (slice_index out 0) ++ listed_entry (slice_index out 1)
 
--- an entry is 0, or a free one of its own
+-- an entry is 0, or a free one of the view
 abbrev pub IsGiven : View → ℕ → Type 0
 IsGiven v e = (e ≡ 0) ⊎ HasFreeEntry v e
 
--- the new node is a free one of its own, into which it has put these heads: each 0, or a free entry of its own, and no two the same
+-- the new node is a free one of the view, into which it has put these heads: each 0, or a free entry of the view, and
+-- no two the same
 pub record HasNewNode (v : View) (slot left right : ℕ) : Type 0 where
   pub free : HasFreeNode v slot
   pub left_head : HasFilled v (Node (Head Left) slot) left
@@ -59,7 +60,7 @@ pub record HasNewNode (v : View) (slot left right : ℕ) : Type 0 where
 abbrev pub HasNone : List ℕ → Type 0
 HasNone new = (new_left new ≡ 0) × (new_right new ≡ 0)
 
--- the new node is ready, where there is one
+-- the new node is ready, if there is one
 abbrev pub HasNew : View → List ℕ → Type 0
 HasNew v new = ((new_slot new ≡ 0) × HasNone new) ⊎ ((0 < new_slot new) × HasNewNode v (new_slot new) (new_left new) (new_right new))
 
@@ -103,10 +104,10 @@ MayRaiseBy z v u new out = (sets : List SetLink) × (unlinking : Option Unlinkin
 abbrev pub raising : Pass → Update → Event
 raising p u = raise_of p.view.layout p.seat u
 
--- what an update that was raised at a place has found, and what it leaves: the updates before it are all that there were, and
--- begin with those that the seat had seen; the tree then had the map after them; the update takes these nodes out of it, with
--- the entries of their bundles, and brings in the new node with its entries. What it leaves to be done at plain links is
--- what the seat has told by its view that it leaves
+-- what an update that was raised at a place has found, and what it leaves: the updates before it are all that there
+-- were, and begin with those that the seat had seen; the tree then had the map after them; the update takes these nodes
+-- out of it, with the entries of their bundles, and brings in the new node with its entries. What it leaves to be done
+-- at plain links is what the seat's view says that it leaves
 pub record HasRaised (v : View) (u : Update) (new out : List ℕ) (at : ℕ) (w : View) : Type 0 where
   pub others : List Update
   pub extends : Extends v.history.seen others
@@ -122,8 +123,8 @@ pub record HasRaised (v : View) (u : Update) (new out : List ℕ) (at : ℕ) (w 
       → LeavesPlain u.change sets unlinking plain
   pub view : w ≡ raised_view others v (length others) u (record { added = slot_given (new_slot new); entries = new_entries_of new; taken = nodes_out out; taken_entries = entries; plain = plain })
 
--- the update was raised at this place by a step that the pass has made since it was `p`: it had made no update between,
--- and has made none since
+-- the update was raised at this place by a step that the pass has made since it was `p`: it made no update before that
+-- step, and has made none since
 pub record IsRaisedSince (p : Pass) (u : Update) (at : ℕ) (w : View) : Type 0 where
   pub before : View
   pub found : ℕ

@@ -6,7 +6,7 @@ use Rattle.pass_slots.specs.Owned.{KeptSlots, node_count, entry_count}
 abbrev pub with_retired : List ℕ → List ℕ → KeptSlots → KeptSlots
 with_retired nodes entries s = record s { retired = record { nodes = s.retired.nodes ++ nodes; entries = s.retired.entries ++ entries } }
 
--- so many more slots have room, and so many entries are looked at
+-- there is room for these slots too, and there are at most `limit` of these entries
 pub record HasRoomFor (ns es : List ℕ) (limit : ℕ) (s : KeptSlots) : Type 0 where
   pub nodes : node_count s + length ns ≤ s.node_room
   pub entries : entry_count s + length es ≤ s.entry_room

@@ -1,5 +1,5 @@
--- Loads of the stamp and announcements: their events, what they leave in the pass's view, and the sections in which a pass
--- reads.
+-- Loads of the stamp and announcements: their events, what they leave in the pass's view, and the sections in which a
+-- pass reads.
 use Rattle.std.specs.Prelude.{◌≡◌, ℕ, ◌+◌, ◌≤◌, ◌==◌, List, length, Bool, true, Option, Some, None}
 use Rattle.index_words.specs.declared.view.View.{View}
 use Rattle.index_words.specs.declared.view.reading.TreeNode.{TreeNode}
@@ -18,7 +18,7 @@ use Rattle.core_laws.specs.ViewNeeds.{event_at, MayAnnounce, MayTakeBack}
 use Rattle.table_rule.specs.Running.{Happened}
 use Rattle.table_steps.specs.Passes.{Pass, Extends}
 
--- a load of the stamp, with 1 where it fixes a place
+-- a load of the stamp, with 1 if it fixes a place
 abbrev pub loading_stamp : Pass → ℕ → Event
 loading_stamp p fixes = event_at p.view.layout p.seat LoadStamp Stamp fixes
 
@@ -27,12 +27,12 @@ pub record HasSeen (v : View) (n : ℕ) (w : View) : Type 0 where
   pub extends : Extends v.history.seen w.history.seen
   pub whole : length w.history.seen ≡ n
 
--- the view has seen these updates, and reads nothing: so it is behind a load of the stamp without an announcement
+-- the view has seen these updates, and reads nothing: it is the one after a load of the stamp without an announcement
 abbrev pub with_seen : List Update → View → View
 with_seen seen v = record v { history = record v.history { seen = seen }; reading = nowhere v.reading }
 
--- the view has seen these updates, and reads at n a tree of these nodes: so it is behind a load of the stamp by a pass that
--- has announced
+-- the view has seen these updates, and reads at n a tree of these nodes: it is the one after a load of the stamp by a
+-- pass that has announced
 abbrev pub reading_at : List Update → View → ℕ → Bool → List TreeNode → View
 reading_at seen v n fixes nodes =
     record v { history = stamp_history seen v.history n fixes; reading = stamp_reading v.reading true n fixes nodes }
@@ -65,13 +65,13 @@ looking_announced p other = event_at p.view.layout p.seat LookAnn (Announced oth
 abbrev pub announced_within : List Update → View → View
 announced_within seen v = announced_view (with_seen seen (entered v.layout.passes v (v.section_word + 1))) (length seen + 1)
 
--- behind the enter a load of the stamp has told how many updates to announce, and they are announced
+-- after the enter a load of the stamp has given how many updates to announce, and they are announced
 pub record HasAnnounced (v w : View) : Type 0 where
   pub first : List Update
   pub extends : Extends v.history.seen first
   pub view : w ≡ announced_within first v
 
--- a section was opened: behind the enter a load of the stamp has told how many updates to announce, and behind the
+-- a section was opened: after the enter a load of the stamp has given how many updates to announce, and after the
 -- announcement a second load has found n, at which the pass reads
 pub record HasOpened (p : Pass) (fixes n : ℕ) (w : View) : Type 0 where
   pub first : List Update
@@ -80,13 +80,13 @@ pub record HasOpened (p : Pass) (fixes n : ℕ) (w : View) : Type 0 where
   pub seen : HasSeen (announced_within first p.view) n w
   pub reads : ReadsNow (announced_within first p.view) fixes n w
 
--- the number was found in the stamp at a step of the pass, which has left it this view; where `fixes` is 1 the step has
+-- the number was found in the stamp at a step of the pass, which has left it this view; if `fixes` is 1 the step has
 -- fixed the number as a place
 abbrev pub IsFoundAt : Pass → ℕ → ℕ → View → Type 0
 IsFoundAt p fixes n w = (v : View) × Happened p.view.layout (loading_stamp p fixes) v n w
 
--- so it was found, by a step that fixed it as a place, which the pass has made since it was `p`: it has counted a look
--- since, and none behind that step
+-- the number was found in the same way, by a step that fixed it as a place and that the pass has made since it was `p`:
+-- the step counts a look, and no look was counted after it
 pub record IsFoundSince (p : Pass) (n : ℕ) (w : View) : Type 0 where
   pub before : View
   pub behind : View

@@ -10,7 +10,7 @@ use Rattle.core_events.specs.declared.event.Kind.TheVariants.{Prepare, Finalise,
 use Rattle.core_laws.specs.ViewNeeds.{event_at}
 use Rattle.table_steps.specs.Passes.{Pass}
 
--- the place of the update that has raised, and 0 where none has
+-- the place of the update that has raised, or 0 if none has
 abbrev pub place_of : Option ℕ → ℕ
 place_of None = 0
 place_of (Some place) = place

@@ -23,7 +23,7 @@ pub struct CloseError {
     pub keys: Vec<PassKey>,
 }
 
-/// What stands at a place of the history that is not filled yet.
+/// A place of the history that is not filled yet.
 const UNFILLED: Update = Update {
     client: 0,
     line: 0,
@@ -31,7 +31,7 @@ const UNFILLED: Update = Update {
     change: Change::Remove,
 };
 
-/// Room for so many updates.
+/// Room for this many updates.
 fn unfilled(alloc: Global, count: usize) -> Result<Vec<Update>, AllocError>
     ensures { IfOk result (λ updates. length updates.items ≡ count) }
 {
@@ -76,7 +76,7 @@ fn put_at_places(updates: &[OwnUpdate], history: &mut [Update])
 }
 
 impl SharedTable {
-    /// Lets a key hear what a seat has seen, and puts the key's updates at their places.
+    /// Makes a key hear what a seat has seen, and puts the key's updates at their places.
     fn take_in(&self, whole: &mut TableSeat, key: PassKey, history: &mut [Update])
         requires of { IsPassOf self.now key }
         requires whole_of { IsOf self.now whole.old }
@@ -98,7 +98,7 @@ impl SharedTable {
         put_at_places(kept.updates.as_slice(), history);
     }
 
-    /// Lets a seat hear what each of the keys has seen, then each of the keys what the seat has seen, and puts the
+    /// Makes a seat hear what each of the keys has seen, then each of the keys what the seat has seen, and puts the
     /// updates of the keys at their places.
     fn gather(&self, whole: &mut TableSeat, keys: Vec<PassKey>, history: &mut [Update])
         requires of { Every (IsPassOf self.now) keys.items }
@@ -125,7 +125,7 @@ impl SharedTable {
         }
     }
 
-    /// Puts the whole history into a list that is as long as the keys' last place says.
+    /// Puts the whole history into a list whose length is the last place of the keys.
     fn fill(&self, keys: Vec<PassKey>, history: &mut [Update])
         requires all { AreAllKeys self.now keys.items }
         requires last { IsLastPlace keys.items (length history.old) }

@@ -1,4 +1,4 @@
-//! The cut of a bundle behind what is read of it.
+//! The cut of a bundle after the entries that are still read.
 ghost use Rattle.std.specs.Prelude.{◌≡◌};
 ghost use Rattle.table_rule.specs.Running.{Stored};
 ghost use Rattle.table_steps.specs.Cuts.{cutting, CanCutBehind, HasCut};
@@ -10,9 +10,9 @@ use index_words::{Part, Word};
 use std::marker::Brand;
 
 impl<'t> TablePass<'t> {
-    /// Cuts a bundle of a locked node behind an entry: the entry is its last one then, and those behind are retired.
+    /// Cuts a bundle of a locked node after an entry: the entry is then its last one, and those after it are retired.
     /// Since it locked the node the pass has found the number and the next of each entry up to this one, and the next
-    /// of each one behind. It has looked at the announcements of all other passes, and this is the first entry whose
+    /// of each one after it. It has looked at the announcements of all other passes, and this is the first entry whose
     /// number is at most the least one.
     pub fn cut(&mut self, entry: u32)
         requires can { CanCutBehind self.old.view entry }
@@ -23,7 +23,7 @@ impl<'t> TablePass<'t> {
         self.seat.facts();
         let table = self.table;
         let limit = table.ruled.layout().entries;
-        // Behind the cut nothing is known of these entries any more.
+        // After the cut nothing is known of these entries any more.
         let next = next_again(&table.ruled, &mut self.seat, entry);
         retire_bundle(
             &mut self.kept.slots,

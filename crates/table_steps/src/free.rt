@@ -19,14 +19,14 @@ impl<'t> TablePass<'t> {
         self.kept.slots.free_entries()
     }
 
-    /// The free node at this place. None behind the last one.
+    /// The free node at this place. None after the last one.
     pub fn free_node(&self, place: usize) -> Option<u32>
         ensures { result ≡ slice_get self.now.view.free.nodes place }
     {
         self.kept.slots.free_node(place)
     }
 
-    /// The free entry at this place. None behind the last one.
+    /// The free entry at this place. None after the last one.
     pub fn free_entry(&self, place: usize) -> Option<u32>
         ensures { result ≡ slice_get self.now.view.free.entries place }
     {

@@ -1,3 +1,4 @@
+//! What a pass keeps at run time.
 use crate::own_updates::OwnUpdates;
 use pass_slots::PassSlots;
 
@@ -10,7 +11,7 @@ pub struct Kept {
     pub section_word: u64,
     /// How many updates it may still make.
     pub left: u32,
-    /// The number of the open snapshot, where there is one.
+    /// The number of the open snapshot, if there is one.
     pub opened: Option<u64>,
     pub slots: PassSlots,
     pub updates: OwnUpdates,

@@ -1,6 +1,9 @@
 //! The running table: a pass's seat, and its steps on the words that all passes share. Each step is one move, and is
 //! the event of its name of the pure machine. The layers above use the steps of `TablePass`, and `SharedTable`, which
 //! is opened for the passes and closed to their history.
+// Proofs of clauses on the view are handwritten, since `search` gives up at this size of view: each is a lemma on plain
+// data, and two lines carry it over `view_is`. In a call to a move its `then` is named (`finds`, `stores`, `knows`). A
+// function that calls itself can pick no ghost member (`make_key`).
 #![tactic(auto)]
 
 mod close;

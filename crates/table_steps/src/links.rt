@@ -20,16 +20,17 @@ impl<'t> TablePass<'t> {
         table.ruled.fetch_links(node);
     }
 
-    /// Loads the key of the node behind a plain link into the processor's cache. It is no event, it changes nothing, and
-    /// nothing is known from it.
+    /// Loads the key of the node at a plain link into the processor's cache. It is no event, it changes nothing, and
+    /// nothing is known from it. Only a search from the root calls it: a call at each entry took 5 to 12 % more time
+    /// where the tree fits into the cache.
     #[inline(always)]
     pub fn fetch_child(&self, node: u32, side: Side) {
         let table = self.table;
         table.ruled.fetch_child(node, side);
     }
 
-    /// Loads a plain link: the child, or 0 for none. The pass has locked the node, or its search stands there; then the
-    /// search goes on by the link.
+    /// Loads a plain link: the child, or 0 for none. The pass has locked the node, or its search stands there and then
+    /// goes on by the link.
     pub fn load_link(&mut self, node: u32, side: Side) -> u32
         requires may { MayReadLink self.old.view node side }
         ensures same { IsSamePass self.old self.new }
@@ -48,7 +49,7 @@ impl<'t> TablePass<'t> {
     }
 
     /// Loads the tag of a plain link: how often the link became null. It is kept with the link where the pass's search
-    /// has found that to be null.
+    /// has found the link to be null.
     pub fn load_tag(&mut self, node: u32, side: Side) -> u64
         requires may { MayReadTag self.old.view node }
         ensures same { IsSamePass self.old self.new }
@@ -61,7 +62,7 @@ impl<'t> TablePass<'t> {
         table.ruled.load::<Brand>(&mut self.seat, word)
     }
 
-    /// Sets a plain link of a locked node to the child that it has since the raise, 0 for none.
+    /// Sets a plain link of a locked node to the child that it has had since the raise, 0 for none.
     pub fn set_link(&mut self, node: u32, side: Side, child: u32)
         requires may { MaySetLink self.old.view node side child }
         ensures same { IsSamePass self.old self.new }

@@ -12,7 +12,7 @@ use crate::pass::TablePass;
 use index_words::{Field, Part, Side, Word};
 use std::marker::Brand;
 
-/// The word where it is a node of a table with so many, or 0, and else 0.
+/// The word if it is 0 or a node of a table with this many, and else 0.
 fn node_or_none(word: u64, nodes: u32) -> u32
     ensures node { word ≤ nodes → result ≡ word }
     ensures other { nodes < word → result ≡ 0 }
@@ -26,7 +26,7 @@ fn node_or_none(word: u64, nodes: u32) -> u32
 }
 
 impl<'t> TablePass<'t> {
-    /// Loads the head of a bundle: its newest entry, or 0 where there is none. The pass then stands at that entry.
+    /// Loads the head of a bundle: its newest entry, or 0 if there is none. The pass then stands at that entry.
     pub fn load_head(&mut self, node: u32, side: Side) -> u32
         requires may { MayReadHead self.old.view node }
         ensures same { IsSamePass self.old self.new }
@@ -118,7 +118,7 @@ impl<'t> TablePass<'t> {
             .load::<Brand>(&mut self.seat, Word::Node(Field::Val, node))
     }
 
-    /// Loads the mark of a node: whether the node was taken out of the tree. A mark on a node in reach that this pass
+    /// Loads the mark of a node: whether the node was taken out of the tree. A mark on a reachable node that this pass
     /// did not take out is counted.
     pub fn load_mark(&mut self, node: u32) -> bool
         requires may { MayReadMark self.old.view node }

@@ -10,8 +10,8 @@ use index_words::{Field, Word};
 use std::marker::Brand;
 
 impl<'t> TablePass<'t> {
-    /// Tries to lock a node that the pass has searched, or the root. False comes only where the word was found held, by
-    /// another pass, and this is counted.
+    /// Tries to lock a node that the pass has searched, or the root. The answer is false only where another pass was
+    /// found to hold the lock; this is counted.
     pub fn try_lock(&mut self, node: u32) -> bool
         requires inside { IsInside self.old.view }
         requires searched { IsSearched self.old.view node }

@@ -1,4 +1,4 @@
-//! Notes: what a pass tells another one of the history.
+//! Notes: what a pass reports to another one of the history.
 ghost use Rattle.std.specs.Prelude.{◌≡◌};
 ghost use Rattle.table_rule.specs.Seats.{Split as SplitHappened};
 ghost use Rattle.table_steps.specs.Notes.{HasHeard, Hearing, IsNoteOf, KnowsOwn};
@@ -8,7 +8,7 @@ use crate::pass::TablePass;
 use std::marker::Model;
 use table_rule::TableSeat;
 
-/// What a pass had seen when it told the note. Contracts see the note's table and what it has seen.
+/// What a pass had seen when it made the note. Contracts see the note's table and what the pass had seen.
 #[derive(Drop)]
 pub struct Note {
     pub(crate) seat: TableSeat,
@@ -27,7 +27,7 @@ impl Model for Note {
 }
 
 impl<'t> TablePass<'t> {
-    /// Tells what the pass has seen. The pass is as it was.
+    /// Makes a note of what the pass has seen. The pass is unchanged.
     pub fn tell(&mut self) -> Note
         ensures same { self.new ≡ self.old }
         ensures event { SplitHappened self.old.view.layout self.old.view 0 self.new.view result.view }

@@ -27,7 +27,7 @@ struct First {
     entry: u32,
 }
 
-/// So many free slots from one on, in room for all slots of the table.
+/// `count` free slots, from `first` on, in room for all slots of the table.
 fn slots_from(alloc: Global, first: u32, count: u32, room: u32) -> Result<OwnSlots, NoMemory>
     requires there { first + count < 2 ^ 32 }
     requires room { count ≤ room }
@@ -43,7 +43,8 @@ fn slots_from(alloc: Global, first: u32, count: u32, room: u32) -> Result<OwnSlo
     Ok(slots)
 }
 
-/// What a pass keeps at the start.
+/// What a pass keeps at the start. It has room for all slots of the table, since a slot that it takes out becomes its
+/// own: 15 numbers of four bytes for each node slot.
 fn first_kept(
     alloc: Global,
     layout: &Layout,
@@ -72,7 +73,7 @@ fn first_kept(
 }
 
 impl SharedTable {
-    /// Makes the key of a pass from the first seat, which keeps what it has to give to the others.
+    /// Makes the key of a pass from the first seat, which keeps what is left for the other keys.
     fn make_key(
         &self,
         seat: &mut TableSeat,

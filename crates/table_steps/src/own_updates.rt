@@ -1,3 +1,4 @@
+//! The updates that a pass made, as it keeps them at run time.
 ghost use Rattle.std.specs.Prelude.{◌≡◌, ◌<◌, ◌≤◌, ◌++◌, ◌∷◌, [], length, IfOk};
 
 use index_words::{NoMemory, Update};
@@ -27,7 +28,7 @@ impl Model for OwnUpdates {
 }
 
 impl OwnUpdates {
-    /// No updates, and room for so many.
+    /// No updates, and room for this many.
     pub fn with_room(alloc: Global, room: u32) -> Result<OwnUpdates, NoMemory>
         ensures updates { IfOk result (λ m. m.updates ≡ []) }
         ensures room { IfOk result (λ m. room ≤ m.room) }

@@ -1,4 +1,4 @@
-//! Parcels: a free node slot on its way from one pass to another. On its way it is the free slot of a seat without a
+//! Parcels: a free node slot on its way from one pass to another. Meanwhile it is the free slot of a seat without a
 //! number.
 ghost use Rattle.std.specs.Prelude.{◌≡◌, ◌<◌, ◌≤◌, ◌+◌, length};
 ghost use Rattle.core_events.specs.Moves.{split_left, split_right};
@@ -49,8 +49,7 @@ fn within(count: usize, all: u32) -> u32
 }
 
 impl<'t> TablePass<'t> {
-    /// How many nodes and entries the pass owns, free ones, those of the batch and retired ones, and how many nodes
-    /// are free.
+    /// How many nodes and entries the pass owns (free, retired, or in the batch), and how many nodes are free.
     pub fn owned_slots(&self) -> OwnedSlots
         ensures nodes { result.nodes ≡ length self.now.view.free.nodes + length self.now.view.batch.nodes + length self.now.view.retired.nodes }
         ensures entries { result.entries ≡ length self.now.view.free.entries + length self.now.view.batch.entries + length self.now.view.retired.entries }
@@ -94,7 +93,7 @@ impl<'t> TablePass<'t> {
         Parcel { seat, node }
     }
 
-    /// Adopts the node of a parcel: it is free, and is the pass's.
+    /// Adopts the node of a parcel: it is free then, and the pass owns it.
     pub fn adopt(&mut self, parcel: Parcel)
         requires of { IsParcelOf self.old parcel }
         ensures same { IsSamePass self.old self.new }

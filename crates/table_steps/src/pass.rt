@@ -63,7 +63,7 @@ impl SharedTable {
 }
 
 impl<'t> TablePass<'t> {
-    /// Lays the work of a pass down.
+    /// Ends the work of a pass.
     pub fn detach(self) -> PassKey
         requires rest { AtRest self.view }
         ensures same { result ≡ self.entry }

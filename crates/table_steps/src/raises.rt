@@ -14,9 +14,9 @@ use std::marker::Brand;
 
 impl<'t> TablePass<'t> {
     /// Raises an update: it takes effect here, and this answers its place. `new` is the slot of the new node and the
-    /// heads of its left and its right bundle, and `out` the nodes that are taken out, with 0 for each that there is
-    /// not. Of each node that is taken out the pass has found the heads and all nexts since it locked it, so it knows
-    /// which entries it retires.
+    /// heads of its left and its right bundle, and `out` the nodes that are taken out; 0 stands for none. Of each node
+    /// that is taken out the pass has found the heads and all nexts since it locked it, so it knows which entries it
+    /// retires.
     pub fn raise(
         &mut self,
         line: u32,

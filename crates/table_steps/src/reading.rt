@@ -1,10 +1,11 @@
-//! The sections in which a pass reads: entered by an enter, a load of the stamp, the announcement of the number that it
-//! found, and a second load, which gives the number at which the pass reads; left by a leave, behind which the
-//! announcement is taken back.
+//! The sections in which a pass reads. It opens one by an enter, a load of the stamp, the announcement of the number
+//! found, and a second load, which gives the number at which the pass reads. It closes one by a leave, and then takes
+//! the announcement back.
 //!
-//! The announcement stands before the second load: who cuts bundles takes away only what is older than each announced
-//! number and than its own section's. A pass that announces later loads the stamp later still, so that the number at
-//! which it reads is at least the other's.
+//!
+//! The announcement comes before the second load: a pass that cuts bundles takes away only what is older than each
+//! announced number and than the number of its own section. A pass that announces later also loads the stamp later, so
+//! the number at which it reads is at least the other's.
 ghost use Rattle.std.specs.Prelude.{◌≡◌};
 ghost use Rattle.table_steps.specs.Passes.{AtRest, Inside, IsSamePass};
 ghost use Rattle.table_steps.specs.Stamps.{outside_again, HasAnnounced, HasOpened, IsFoundAt};
@@ -26,8 +27,8 @@ impl<'t> TablePass<'t> {
         self.announce(Some(seen));
     }
 
-    /// Opens a section in which the pass reads at the number that this answers. Who reads a tree opens its section by
-    /// this call or by `open_snapshot`.
+    /// Opens a section in which the pass reads at the number that this answers. A pass that reads a tree opens its
+    /// section by this call or by `open_snapshot`.
     pub fn open_section(&mut self) -> u64
         requires rest { AtRest self.old.view }
         ensures same { IsSamePass self.old self.new }
@@ -40,7 +41,7 @@ impl<'t> TablePass<'t> {
         self.load_stamp()
     }
 
-    /// The same, and a snapshot is open then at this number.
+    /// As `open_section`, and a snapshot is open then at this number.
     pub fn open_snapshot(&mut self) -> u64
         requires rest { AtRest self.old.view }
         ensures same { IsSamePass self.old self.new }

@@ -1,7 +1,7 @@
 //! How a raise and a cut move the slots that a pass keeps.
 //!
-//! Which entries the bundles of a locked node have, the pass has found since it locked the node. It keeps none of that:
-//! the words are as they were, so they are loaded again.
+//! Since it locked a node, the pass has found which entries the node's bundles have. It keeps none of that: the words
+//! are unchanged, so they are loaded again.
 ghost use Rattle.std.specs.Prelude.{◌≡◌, ℕ, ◌++◌, ◌<◌, List, [], ◌∷◌};
 ghost use Rattle.core_events.specs.UpdateMoves.{listed_entry};
 ghost use Rattle.table_rule.specs.Homes.{IsOf};
@@ -40,7 +40,7 @@ pub(crate) fn next_again(table: &RuledTable, seat: &mut TableSeat, entry: u32) -
     word as u32
 }
 
-/// Retires the entries of a bundle of a locked node from this one on, which are at most so many.
+/// Retires the entries of a bundle of a locked node from this one on. There are at most this many.
 pub(crate) fn retire_bundle(
     slots: &mut PassSlots,
     table: &RuledTable,
@@ -64,7 +64,7 @@ pub(crate) fn retire_bundle(
     }
 }
 
-/// Retires a node with the entries of its bundles, where it is not 0.
+/// Retires a node, if it is not 0, with the entries of its bundles.
 fn retire_node(
     slots: &mut PassSlots,
     table: &RuledTable,

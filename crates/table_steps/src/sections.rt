@@ -18,8 +18,8 @@ use core_grace::left_word as word_after_leaving;
 use index_words::Word;
 use std::marker::Brand;
 
-/// Forgets the number of the snapshot, where there is one. Where none is, nothing is stored: the next store of a word
-/// would wait for it.
+/// Forgets the number of the snapshot, if there is one. If there is none, nothing is stored: the next store of a word
+/// would wait for that store.
 fn forget(opened: &mut Option<u64>)
     ensures { opened.new ≡ None }
 {
@@ -29,7 +29,8 @@ fn forget(opened: &mut Option<u64>)
 }
 
 impl<'t> TablePass<'t> {
-    /// Enters a section: the own section word becomes odd. Where no batch waits the retired slots become the batch.
+    /// Enters a section: the pass's own section word becomes odd. Where no batch waits the retired slots become the
+    /// batch.
     pub fn enter(&mut self)
         requires outside { IsOutside self.old.view }
         ensures same { IsSamePass self.old self.new }
@@ -48,7 +49,7 @@ impl<'t> TablePass<'t> {
         self.kept.slots.enter(passes, self.kept.number);
     }
 
-    /// Leaves a section: the own section word becomes even, and what was read is gone.
+    /// Leaves a section: the pass's own section word becomes even, and what was read is forgotten.
     pub fn leave(&mut self)
         requires inside { Inside self.old.view }
         ensures same { IsSamePass self.old self.new }
@@ -84,7 +85,7 @@ impl<'t> TablePass<'t> {
         forget(&mut self.kept.opened);
     }
 
-    /// Looks at the section word of another pass at the wait of a removal. Of the slots nothing changes.
+    /// Looks at the section word of another pass at the wait of a removal. The slots are unchanged.
     pub fn look_waiting(&mut self, other: u32) -> u64
         requires may { MayLookWaiting self.old.view other }
         requires locked { has_no_lock self.old.view ≡ false }
@@ -97,7 +98,7 @@ impl<'t> TablePass<'t> {
         table.ruled.load::<Brand>(&mut self.seat, word)
     }
 
-    /// Looks at the section word of another pass, for the sake of the slots that wait to become free.
+    /// Looks at the section word of another pass, for the slots that wait to become free.
     pub fn look_sec(&mut self, other: u32) -> u64
         requires outside { IsOutside self.old.view }
         requires other { other ≢ self.old.number }
@@ -118,7 +119,7 @@ impl<'t> TablePass<'t> {
         word
     }
 
-    /// Stores a value to the word with this number: any word but the lock of a free slot of its own.
+    /// Stores a value to the word with this number: any word but the lock of a free slot of the pass.
     pub fn fill(&mut self, word: u64, value: u64)
         requires free { (w : TableWord) × (word_at self.old.view.layout word ≡ Some w) × MayFill self.old.view w }
         ensures same { IsSamePass self.old self.new }
@@ -132,7 +133,7 @@ impl<'t> TablePass<'t> {
         self.fill_word(word, value);
     }
 
-    /// Stores a value to a word of a free slot of its own.
+    /// Stores a value to a word of a free slot of the pass.
     pub fn fill_word(&mut self, word: Word, value: u64)
         requires there { is_there self.old.view.layout word ≡ true }
         requires free { MayFill self.old.view word }

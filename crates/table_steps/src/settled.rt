@@ -1,4 +1,4 @@
-//! What a pass tells of its slots that wait to become free.
+//! What a pass reports of its slots that wait to become free.
 ghost use Rattle.std.specs.Prelude.{◌≡◌, ◌<◌, ◌==◌, ◌&&◌, not};
 ghost use Rattle.key_map.specs.Lists.{has};
 ghost use Rattle.core_grace.specs.Batches.{batch_taken, is_empty, is_number};
@@ -22,7 +22,7 @@ impl<'t> TablePass<'t> {
         self.kept.number == number
     }
 
-    /// Whether neither a batch waits nor a slot is retired.
+    /// Whether no batch waits and no slot is retired.
     pub fn is_settled(&self) -> bool
         ensures { result ≡ (is_empty self.now.view.batch && is_empty self.now.view.retired) }
     {
@@ -36,8 +36,8 @@ impl<'t> TablePass<'t> {
         self.kept.slots.has_batch()
     }
 
-    /// Whether the batch that waits has passed this pass. Where none waits, the one that would be taken now has passed
-    /// none.
+    /// Whether the batch that waits has passed the pass `other`. Where none waits, the batch that would be taken now
+    /// has passed none.
     pub fn was_passed(&self, other: u32) -> bool
         requires { other < self.now.view.layout.passes }
         ensures { result ≡ has other (batch_taken self.now.view).grace.passed }

@@ -11,7 +11,8 @@ use crate::pass::TablePass;
 use index_words::Word;
 use std::marker::Brand;
 
-/// What an announcement stores, in a table of so many calls: the number plus 1, and 0 where none is announced any more.
+/// What an announcement stores, in a table of this many calls: the number plus 1, and 0 where none is announced any
+/// more.
 fn word_to_announce(number: Option<u64>, calls: u32) -> u64
     requires few { IfSome number (λ n. n ≤ calls) }
     ensures { result ≡ announced_word number }
@@ -68,7 +69,7 @@ impl<'t> TablePass<'t> {
             .store::<Brand>(&mut self.seat, Word::Announced(self.kept.number), word);
     }
 
-    /// Looks at what another pass has announced: the number plus 1, and 0 where it has announced none.
+    /// Looks at what another pass has announced: the number plus 1, or 0 if it has announced none.
     pub fn look_ann(&mut self, other: u32) -> u64
         requires may { MayLookAnn self.old.view other }
         ensures same { IsSamePass self.old self.new }
@@ -81,7 +82,7 @@ impl<'t> TablePass<'t> {
             .load::<Brand>(&mut self.seat, Word::Announced(other))
     }
 
-    /// The number of the open snapshot, where there is one.
+    /// The number of the open snapshot, if there is one.
     pub fn opened(&self) -> Option<u64>
         ensures { result ≡ self.now.view.reading.opened }
     {
@@ -100,7 +101,7 @@ impl<'t> TablePass<'t> {
     pub fn number_fact(&self)
         ensures { self.now.view.number ≡ Some self.now.number }
     {
-        // What a type's invariant says is known where a field is used.
+        // The invariant of a type is known where a field is used.
         let _ = &self.kept;
     }
 

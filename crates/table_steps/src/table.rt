@@ -24,8 +24,8 @@ impl Model for SharedTable {
 }
 
 impl SharedTable {
-    /// Joins another seat into this one. What it has seen then begins with what it had seen, and with what the other
-    /// one had. A join tells this of the other seat alone, so a copy of this one is joined after it.
+    /// Joins another seat into this one. What this one has seen then begins with what it had seen, and with what the
+    /// other one had. A join says this of the other seat alone, so a copy of this one is joined after it.
     pub(crate) fn absorb(&self, seat: &mut TableSeat, other: TableSeat)
         requires of { IsOf self.now seat.old }
         requires other_of { IsOf self.now other }

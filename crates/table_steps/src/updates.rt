@@ -1,4 +1,4 @@
-//! The steps of an update beside its raise. Each is one move of one word.
+//! The steps of an update apart from its raise. Each is one move of one word.
 ghost use Rattle.std.specs.Prelude.{◌≡◌};
 ghost use Rattle.core_events.specs.LockMoves.{unlocked_view, with_mark};
 ghost use Rattle.core_events.specs.UpdateMoves.{finalised, prepared};
@@ -55,7 +55,7 @@ impl<'t> TablePass<'t> {
         table.ruled.store::<Brand>(&mut self.seat, word, 1);
     }
 
-    /// Gives the lock of a node back. The update ends with the last one.
+    /// Gives the lock of a node back. With the last lock the update ends.
     pub fn unlock(&mut self, node: u32)
         requires may { MayUnlock self.old.view node }
         ensures same { IsSamePass self.old self.new }

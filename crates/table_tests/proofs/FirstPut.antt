@@ -265,7 +265,7 @@ may_raise v n is own =
     subst (λ (u : View). MayRaise u.layout u (update_of n 2 5 (Put 7)) (Some 1) [] (set_to 0 Right 1 ∷ []) None) (sym is)
     (grow_from_view held_link null_link at_prepared.layout at_prepared n 2 5 7 (can_raise n number) holds_grow)
 
--- behind the raise the root's plain link is to be set to the new node
+-- after the raise the root's plain link is to be set to the new node
 abbrev root_front : Front
 root_front = record { at = record { node = 0; side = Right }; entry = 1; child = 1 }
 
@@ -294,7 +294,7 @@ module _ (v w f : View) (n place : ℕ) (is : v ≡ at_prepared) (own : v.number
     waited = λ u is_it at_it. let none : gives.plain.unlinking ≡ None = leaves.last in cc;
   })
 
-  -- once it is set the lock may be given back
+  -- once it is set the root may be unlocked
   pub may_unlock : (g : View) → g ≡ link_set f 0 Right 1 → MayUnlock g 0
   may_unlock g set = subst (λ (y : View). MayUnlock y 0) (sym (set ∙ ap (λ (y : View). link_set y 0 Right 1) numbered_is)) (record {
     locked = one_above;

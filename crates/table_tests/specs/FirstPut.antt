@@ -42,8 +42,8 @@ at_read = reading_at [] at_announced 0 false []
 abbrev pub at_root : View
 at_root = tag_loaded (link_loaded at_read 0 Right 0) 0 Right 0
 
--- it has filled node 1 with key 5 and value 7, and entry 1, which leads to it; the other words of both are 0, since they
--- were never used
+-- it has filled node 1 with key 5 and value 7, and entry 1, which leads to it; the other words of both are 0, since
+-- they were never used
 abbrev pub at_pair : View
 at_pair = filled_view (filled_view (filled_view at_root (Node Key 1) 5) (Node Val 1) 7) (Entry Child 1) 1
 

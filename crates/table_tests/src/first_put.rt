@@ -1,4 +1,4 @@
-// The first put of a table by single steps. All numbers were worked by hand.
+// The first put of a table by single steps. All numbers are handwritten.
 ghost use Rattle.std.specs.Prelude.{◌≡◌, true, IfOk};
 ghost use Rattle.index_words.specs.declared.side.Side.TheVariants.{Right};
 ghost use Rattle.core_events.specs.LockMoves.{locked_view};
@@ -38,7 +38,7 @@ fn opened(alloc: Global) -> Result<(SharedTable, PassKey, PassKey), NoMemory>
     }
 }
 
-/// Enters a section, and tells whether there is no update yet.
+/// Enters a section. Returns whether there is no update yet.
 fn sees_nothing(pass: &mut TablePass<'_>) -> bool
     requires start { pass.old.view ≡ at_start }
     ensures { result ≡ true → pass.new.view ≡ at_seen }
@@ -47,7 +47,7 @@ fn sees_nothing(pass: &mut TablePass<'_>) -> bool
     pass.load_stamp() == 0
 }
 
-/// Whether the root's plain link is null, and has never become so.
+/// Whether the root's plain link is null, with the tag 0.
 fn has_no_child(pass: &mut TablePass<'_>) -> bool
     requires may { MayReadLink pass.old.view 0 Right }
     ensures { result ≡ true → pass.new.view ≡ tag_loaded (link_loaded pass.old.view 0 Right 0) 0 Right 0 }
@@ -55,7 +55,7 @@ fn has_no_child(pass: &mut TablePass<'_>) -> bool
     pass.load_link(0, Side::Right) == 0 && pass.load_tag(0, Side::Right) == 0
 }
 
-/// Announces that it has seen no update, and tells whether there is none still, and no child at the root.
+/// Announces that it has seen no update. Returns whether there is still none, and no child at the root.
 fn reads_nothing(pass: &mut TablePass<'_>) -> bool
     requires seen { pass.old.view ≡ at_seen }
     ensures { result ≡ true → pass.new.view ≡ at_root }
@@ -87,7 +87,7 @@ fn is_bare(pass: &mut TablePass<'_>) -> bool
     has_no_child(pass) && pass.load_head(0, Side::Right) == 0
 }
 
-/// Locks the root, and tells whether it is unmarked, still without a child, and without an entry.
+/// Locks the root. Returns whether it is unmarked, still without a child, and without an entry.
 fn locks_root(pass: &mut TablePass<'_>) -> bool
     requires filled { pass.old.view ≡ at_pair }
     ensures { result ≡ true → pass.new.view ≡ at_locked_root }
@@ -99,7 +99,7 @@ fn locks_root(pass: &mut TablePass<'_>) -> bool
     }
 }
 
-/// Raises the put that is ready, and ends it. Its place.
+/// Raises the put that is ready, and ends it. Returns its place.
 fn put_by_steps(pass: &mut TablePass<'_>) -> u64
     requires locked { pass.old.view ≡ at_locked_root }
 {
@@ -113,7 +113,7 @@ fn put_by_steps(pass: &mut TablePass<'_>) -> u64
     place
 }
 
-/// The place of a put by single steps. None where the pass finds another table than one without updates.
+/// The place of a put by single steps. None if the pass finds another table than one without updates.
 fn place_of_put(pass: &mut TablePass<'_>) -> Option<u64>
     requires start { pass.old.view ≡ at_start }
 {
@@ -131,7 +131,7 @@ const SEEN: [Row; 2] = [
     Row::First(6, 1, None),
 ];
 
-/// The place of the put, and whether the other pass sees the pair then.
+/// The place of the put, and whether the other pass then sees the pair.
 fn put_and_seen<R: Wait>(rt: &R, alloc: Global) -> Result<(Option<u64>, bool), NoMemory> {
     let (table, one, two) = opened(alloc)?;
     let place = place_of_put(&mut table.attach(one));

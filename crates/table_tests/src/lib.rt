@@ -1,5 +1,6 @@
-//! Tests of the public calls of the running table: of `table_steps`, `snapshot_read`, `update_search`, `update_try` and
-//! `tree_update`, which are proved once so and not a second time with their tests.
+//! Tests of the public calls of the running table, which are those of `table_steps`, `snapshot_read`, `update_search`,
+//! `update_try` and `tree_update`. They are in a crate of their own, so that those crates are not proved a second time
+//! with their tests.
 #![tactic(auto)]
 
 #[cfg(test)]

@@ -1,4 +1,4 @@
-// What a try finds where another pass's update comes between its search and its looks.
+// What a try finds if another pass makes an update between its search and its looks.
 ghost use Rattle.std.specs.Prelude.{◌<◌};
 ghost use Rattle.table_steps.specs.Passes.{AtRest};
 ghost use Rattle.tree_update.specs.Trying.{OffersSlots};
@@ -16,8 +16,8 @@ use table_steps::TablePass;
 use update_search::{Failed, begin_search, find_aim};
 use update_try::{carry_out, plan_slots};
 
-/// A try to put a key, which stops behind its search until another pass has made the calls of the rows. Whether it has
-/// then found that something moved.
+/// A try to put a key, which stops after its search until another pass has made the calls of the rows. Returns whether
+/// it has then found that something moved.
 fn is_moved_by<P: TestedPass, R: Wait>(
     rt: &R,
     alloc: Global,

@@ -1,5 +1,5 @@
-// Calls of passes as rows, each with the answer that it is to have, and scenes of two passes: one of them makes the calls
-// of rows, and the other one may have a snapshot open then.
+// Calls of passes as rows, each with the answer that it is to have, and scenes of two passes: one of them makes the
+// calls of rows, and the other one may have a snapshot open then.
 ghost use Rattle.table_steps.specs.Passes.{AtRest};
 
 use crate::tested_pass::TestedPass;
@@ -37,7 +37,7 @@ fn snapshot<P: TestedPass, R: Wait>(rt: &R, pass: &mut P, key: u64) -> (u64, Opt
     (at, first)
 }
 
-/// Makes the row's call, and tells whether it has the row's answer.
+/// Makes the row's call. Returns whether it has the row's answer.
 fn has_answer<P: TestedPass, R: Wait>(rt: &R, alloc: Global, pass: &mut P, row: &Row) -> bool
     requires { AtRest (P.view pass.old) }
     ensures { AtRest (P.view pass.new) }
@@ -72,7 +72,7 @@ pub(crate) fn have_answers<P: TestedPass, R: Wait>(
     true
 }
 
-/// Calls of one of two passes, while the other one may have a snapshot open: its place, and its first pair behind the
+/// Calls of one of two passes, while the other one may have a snapshot open: its place, and its first pair after the
 /// calls.
 #[derive(Clone, Copy)]
 pub(crate) enum Scene {
@@ -82,8 +82,8 @@ pub(crate) enum Scene {
     BySecondBeside(u64, Option<Pair>, &'static [Row]),
 }
 
-/// Whether the rows have their answers while the other pass has a snapshot open, and whether that has this place and then
-/// this first pair.
+/// Whether the rows have their answers while the other pass has a snapshot open, and whether the snapshot has this
+/// place and, after the rows, this first pair.
 fn go_beside<P: TestedPass, R: Wait>(
     rt: &R,
     alloc: Global,
@@ -104,7 +104,7 @@ fn go_beside<P: TestedPass, R: Wait>(
     is_right && (at, first) == shown
 }
 
-/// Whether the scene goes as it is to.
+/// Whether the scene goes as it should.
 fn goes<P: TestedPass, R: Wait>(
     rt: &R,
     alloc: Global,
@@ -129,7 +129,7 @@ fn goes<P: TestedPass, R: Wait>(
     }
 }
 
-/// Whether each of the scenes goes as it is to.
+/// Whether each of the scenes goes as it should.
 pub(crate) fn go<P: TestedPass, R: Wait>(
     rt: &R,
     alloc: Global,

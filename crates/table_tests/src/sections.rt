@@ -10,7 +10,7 @@ use table_steps::{PassKey, SharedTable};
 
 const SIZE: (u32, u32, u32) = (1, 4, 1);
 
-/// Opens and closes a section so often, and answers how often the stamp was found 0.
+/// Opens and closes a section so often. Returns how often the stamp was found 0.
 fn work(table: &SharedTable, key: PassKey, turns: u32) -> u32
     requires of { IsPassOf table.now key }
 {
@@ -96,7 +96,7 @@ const ROOT: [(Load, u64); 6] = [
     (Load::Lock, 1),
 ];
 
-/// Whether each load finds what it is to find.
+/// Whether each load finds what it should.
 fn has_only_zeros(alloc: Global) -> Result<bool, NoMemory> {
     for (load, word) in ROOT {
         if found_alone(alloc, load)? != word {

@@ -26,7 +26,7 @@ use update_try::{
     raise_tag, set_plain, unlock_all, validate,
 };
 
-/// Key 5 behind the update.
+/// Key 5 after the update.
 const NEW: Look = Look::Found(Pair { key: 5, val: 51 });
 
 /// What one look for the first pair finds, in a snapshot of its own, with the snapshot's place.
@@ -43,9 +43,9 @@ fn meets<P: TestedPass>(other: &mut P, seen: Seen, tried: Try) -> bool
     other.put_by_try(5, 52) == Ok(tried) && (at, look) == seen
 }
 
-/// Ends an update behind its raise at this place. Whether the other pass sees the new pair and meets a lock with the
-/// numbers written, with the bundles cut, with the nodes that went out marked and with the plain links set, and whether
-/// it comes through behind the end.
+/// Ends an update after its raise at this place. Returns whether the other pass sees the new pair and meets a lock once
+/// the numbers are written, once the bundles are cut, once the nodes that were taken out are marked and once the plain
+/// links are set, and whether its try succeeds after the end.
 fn end_in_stages<P: TestedPass>(
     pass: &mut TablePass<'_>,
     other: &mut P,
@@ -80,9 +80,9 @@ fn end_in_stages<P: TestedPass>(
     [numbered, pruned, marked, set, ended]
 }
 
-/// Carries an aim out, at this place. Whether the other pass sees what it had seen with the nodes locked, waits at an
-/// entry with the entries in front of their bundles and behind the raise, and meets a lock then; and what it meets at the
-/// stages of the end. None where a lock or a look fails.
+/// Carries out an aim, at this place. Returns whether the other pass meets a lock at three stages: with the nodes
+/// locked, when it sees what it had seen, and with the entries in front of their bundles and after the raise, when
+/// its look waits at an entry. Then what it meets at the stages of the end. None if a lock or a look fails.
 fn carry_in_stages<P: TestedPass>(
     pass: &mut TablePass<'_>,
     other: &mut P,
@@ -135,7 +135,7 @@ fn put_in_stages<P: TestedPass>(
     }
 }
 
-/// Puts key 5 anew, with free slots of the pass's own.
+/// Puts key 5 again, with free slots of the pass's own.
 fn put_with_own_slots<P: TestedPass>(
     pass: &mut TablePass<'_>,
     other: &mut P,
@@ -152,7 +152,7 @@ fn put_with_own_slots<P: TestedPass>(
     put_in_stages(pass, other, &slots, before, place)
 }
 
-/// The same on a table of two passes, behind the calls of these rows.
+/// The same on a table of two passes, after the calls of these rows.
 fn met_behind<R: Wait>(
     rt: &R,
     alloc: Global,

@@ -1,4 +1,4 @@
-// Calls of passes in turn, each with the answer that it is to have, worked by hand. A story is named by its fact.
+// Calls of passes in turn, each with the answer that it is to have, handwritten. A story is named by its fact.
 use crate::rows::{Row, Scene, go, have_answers};
 use crate::set_up::{ROOMY, opened, size_of, two_passes};
 use index_words::{NoMemory, Pair};
@@ -16,7 +16,7 @@ struct Story {
     scenes: &'static [Scene],
 }
 
-/// Whether the scenes go as they are to, on a table of their own.
+/// Whether the scenes go as they should, on a table of their own.
 fn is_right<R: Wait>(rt: &R, alloc: Global, story: &Story) -> Result<bool, NoMemory> {
     let (table, first, second) = two_passes(alloc, story.size)?;
     let mut zero = table.attach(first);
@@ -24,7 +24,7 @@ fn is_right<R: Wait>(rt: &R, alloc: Global, story: &Story) -> Result<bool, NoMem
     Ok(go(rt, alloc, &mut zero, &mut one, story.scenes))
 }
 
-/// The fact of the first story whose scenes do not go so.
+/// The fact of the first story whose scenes do not.
 fn first_wrong<R: Wait>(rt: &R, alloc: Global) -> Result<Option<&'static str>, NoMemory> {
     for story in STORIES {
         if !is_right(rt, alloc, &story)? {
@@ -60,8 +60,8 @@ fn a_pass_alone_settles_what_it_has_taken_out(rt: HostRuntime) -> Result<(), Fai
     Ok(())
 }
 
-/// A node that goes out gives back the entries of both its bundles: here two on the left, where a put was made twice,
-/// and one on the right.
+/// A node that is taken out gives back the entries of both its bundles: here two on the left, where a put was made
+/// twice, and one on the right.
 #[test]
 fn a_replaced_node_gives_its_entries_back(rt: HostRuntime) -> Result<(), Fail> {
     assert!(rt; is_right_alone(&rt, rt.alloc(), (5, 20, 8), &BOTH_BUNDLES)?);
@@ -107,7 +107,7 @@ const STORIES: [Story; 12] = [
         size: (2, 60, 8),
         scenes: &[Scene::BySecond(&FOUR_ROUNDS)],
     },
-    // without cuts four of the eight entries were left behind the fourth put, and three behind the fifth: too few
+    // without cuts four of the eight entries would be left after the fourth put, and three after the fifth: too few
     Story {
         fact: "a pass with few slots puts a key again and again",
         size: (2, 8, 8),
@@ -156,7 +156,7 @@ const STORIES: [Story; 12] = [
             Scene::ByFirstBeside(1, Some(Pair { key: 5, val: 50 }), &LATER_PUTS),
         ],
     },
-    // how many updates it has seen, plus 1, while it reads, and else 0
+    // while it reads, the number of updates that it has seen, plus 1; otherwise 0
     Story {
         fact: "a pass announces what it has seen while it reads",
         size: ROOMY,
@@ -248,7 +248,7 @@ const LAST_TURN: [Row; 2] = [
     Row::First(3, 5, Some(Pair { key: 6, val: 60 })),
 ];
 
-/// Each removal is of a node with two children, whose successor hangs further down.
+/// Each removal is of a node with two children, whose successor is further down.
 const FAR_SUCCESSORS: [Row; 11] = [
     Row::Put(1, 10, 1, Ok(Done { at: 1, was: false })),
     Row::Put(1, 5, 2, Ok(Done { at: 2, was: false })),
@@ -282,8 +282,8 @@ const LATER_PUTS: [Row; 4] = [
 
 /// Puts of absent keys and of a present one; removals of a leaf, of a node with a right child alone, of one with a
 /// successor deeper down and without a child, and of one whose successor is its right child; the rest of the nodes, one
-/// of them with a left child alone; and a removal of a node whose deeper successor has a child. Behind each the tree has
-/// one link more than twice its nodes.
+/// of them with a left child alone; and a removal of a node whose deeper successor has a child. After each of them the
+/// tree has one link more than twice its nodes.
 const LINKS: [Row; 40] = [
     Row::Put(1, 50, 7, Ok(Done { at: 1, was: false })),
     Row::Links(3),

@@ -41,7 +41,7 @@ pub(crate) trait TestedPass {
         requires { AtRest (view self.old) }
         ensures { AtRest (view self.new) };
 
-    /// Opens a snapshot, and answers its place.
+    /// Opens a snapshot. Returns its place.
     fn begin_reading(&mut self) -> u64
         requires { AtRest (view self.old) }
         ensures { IsReading (view self.new) };
@@ -60,12 +60,12 @@ pub(crate) trait TestedPass {
         requires { IsReading (view self.old) }
         ensures { AtRest (view self.new) };
 
-    /// How many links the tree has, where each plain link leads where the tree does.
+    /// How many links the tree has, if each plain link leads where the tree does.
     fn links(&mut self, alloc: Global) -> Option<u64>
         requires { AtRest (view self.old) }
         ensures { AtRest (view self.new) };
 
-    /// What the pass finds, in a section of its own, at the announcement of pass 0. None of pass 0 itself.
+    /// What the pass finds, in a section of its own, at the announcement of pass 0. None for pass 0 itself.
     fn announced_by_first(&mut self) -> Option<u64>
         requires { AtRest (view self.old) }
         ensures { AtRest (view self.new) };

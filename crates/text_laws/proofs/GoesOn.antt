@@ -1,4 +1,4 @@
--- Where lines are right, the first of them are those of the same updates and replies, and the next one is right behind
+-- If lines are right, the first of them are those of the same updates and replies, and the next one is right after
 -- them.
 use Rattle.std.proofs.Common.{◌≡◌, ℕ, zero, suc, ◌+◌, ◌^◌, ◌<◌, List, [], ◌∷◌, ◌++◌, length, take, Some, refl, sym, ap, ◌∙◌, subst, arith, append_assoc, append-nil}
 use Rattle.std.specs.List.{slice_get}

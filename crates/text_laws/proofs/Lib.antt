@@ -2,7 +2,7 @@
 pub mod Runs
 -- Where a quoted text ends.
 pub mod Quotes
--- What a line tells of its reply or update.
+-- What a line says of its reply or update.
 pub mod Spelled
 -- A reply line is that of one reply.
 pub mod OneReply

@@ -132,7 +132,7 @@ module _ (dir : List (List ℕ)) (records : List Record) where
       ∙ drop-append-add (reply_list ps) (reply_lists lists ++ behind) (requests_of (take k parts)))
       ∙ list_of_client lists parts k behind (omega arith) (omega arith) (λ j within. each (suc j) (omega arith))
 
-  -- lines that are each client's are those of all clients, one after another
+  -- the lines of each client, one client after another, are those of all clients
   pub lists_of_slices : (parts : List (List RequestLine)) (lists : List (List Placed)) (texts : List (List ℕ)) → length lists ≡ length parts
       → ((k : ℕ) → k < length parts → take (length (get_or parts k [])) (drop (requests_of (take k parts)) texts) ≡ reply_list (get_or lists k []))
       → take (requests_of parts) texts ≡ reply_lists lists

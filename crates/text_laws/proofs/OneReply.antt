@@ -1,4 +1,4 @@
--- One reply at most is right at a place, so a reply line is that of one reply.
+-- At most one reply is right at a place, so a reply line is that of one reply.
 use Rattle.std.proofs.Common.{◌≡◌, ℕ, zero, suc, ◌-◌, ◌^◌, ◌<◌, ◌≤◌, ◌⊎◌, false, List, length, Option, Some, None, IfSome, if◌then◌else◌, inl, inr, refl, sym, ap, ◌∙◌, subst, arith}
 use Rattle.std.proofs.lemmas.Option.{same_Some, none-some, slice_get_within, get_or_from_slice_get}
 use Rattle.key_names.specs.Names.{Rises}
@@ -102,7 +102,7 @@ module _ (s : Setting) (rising : Rises s.dir) (last : Option Reply) (line : ℕ)
   one_told (ListV1 query) None a b h k = h ∙ sym k
   one_told Next None a b h k = h ∙ sym k
 
--- a place in the history is small where the history is short
+-- a place in the history is small if the history is short
 pub small_place : (s : Setting) (earlier : List Answered) (line : ℕ) (at : Option ℕ) → length s.updates < 2 ^ 64 → IfSome at (KeepsOrder s earlier line) → IfSome at (λ n. n < 2 ^ 64)
 small_place s earlier line None short order = tt
 small_place s earlier line (Some at) short order = let within : at ≤ length s.updates = order.within in omega arith

@@ -5,13 +5,13 @@ use Rattle.std.proofs.lemmas.Bool.{cases_Bool}
 use Rattle.std.proofs.lemmas.Bool.Decides.{nat_tests}
 use Rattle.json.specs.Print.{quoted, escape, escape_byte, escape_letter}
 
--- what stands behind the next double quote without a backslash before it; `escaped` tells that the byte before was one
+-- what stands after the next double quote without a backslash before it; `escaped`: the byte before was a backslash
 abbrev pub behind_quote : Bool → List ℕ → List ℕ
 behind_quote escaped [] = []
 behind_quote true (b ∷ bytes) = behind_quote false bytes
 behind_quote false (b ∷ bytes) = if b == 34 then bytes else behind_quote (b == 92) bytes
 
--- a plain byte is passed
+-- a plain byte is skipped
 plain : (b : ℕ) (rest : List ℕ) → (b == 34) ≡ false → (b == 92) ≡ false → behind_quote false (b ∷ rest) ≡ behind_quote false rest
 plain b rest quote back = rw (quote, back) refl
 
@@ -44,7 +44,7 @@ past_escape (b ∷ text) rest =
     ∙ past_byte b (escape text ++ 34 ∷ rest)
     ∙ past_escape text rest
 
--- what stands behind a quoted text is told by the text
+-- a text that begins with a quoted text determines what stands after it
 pub past_quoted : (text rest : List ℕ) → behind_quote false (drop 1 (quoted text ++ rest)) ≡ rest
 past_quoted text rest = ap (behind_quote false) (append_assoc (escape text) (34 ∷ []) rest) ∙ past_escape text rest
 

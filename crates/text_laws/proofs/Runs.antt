@@ -1,4 +1,4 @@
--- Numbers in a text: where the digits end is told by the first byte that is none.
+-- Numbers in a text: the first byte that is not a digit shows where the digits end.
 use Rattle.std.proofs.Common.{◌≡◌, ℕ, ◌^◌, ◌<◌, Bool, true, false, List, [], ◌∷◌, ◌++◌, length, drop, get_or, decimal, refl, sym, ap, ◌∙◌, arith}
 use Rattle.std.specs.Char.{is_ascii_digit}
 use Rattle.std.specs.Str.Parse.{AllDigits}
@@ -12,7 +12,7 @@ abbrev pub Each : (ℕ → Bool) → List ℕ → Type 0
 Each test [] = Unit {0}
 Each test (b ∷ bytes) = (test b ≡ true) × Each test bytes
 
--- what stands behind the same front is the same
+-- what stands after the same front is the same
 pub cancel : (front a b : List ℕ) → front ++ a ≡ front ++ b → a ≡ b
 cancel [] a b e = e
 cancel (x ∷ front) a b e = cancel front a b (ap (λ (l : List ℕ). drop 1 l) e)
@@ -26,7 +26,7 @@ tail_same x y xs ys e = ap (λ (l : List ℕ). drop 1 l) e
 both : {P : Type 0} (b : Bool) → b ≡ true → b ≡ false → P
 both b passes fails = absurd (false≢true (sym fails ∙ passes))
 
--- two fronts of bytes that pass, each in front of one that doesn't
+-- two fronts of bytes that pass, each before a byte that does not
 pub runs : (test : ℕ → Bool) (ds es : List ℕ) (c d : ℕ) (r s : List ℕ) → Each test ds → Each test es → test c ≡ false → test d ≡ false
     → ds ++ c ∷ r ≡ es ++ d ∷ s → (ds ≡ es) × (c ∷ r ≡ d ∷ s)
 runs test [] [] c d r s each_d each_e not_c not_d e = (refl, e)
@@ -46,7 +46,7 @@ each_digit (b ∷ ds) digits =
 pub digits_of : (n : ℕ) → n < 2 ^ 64 → Each is_ascii_digit (decimal n)
 digits_of n small = each_digit (decimal n) (decimal_is_IsNumeral n small).0.1
 
--- a number in front of a byte that is no digit
+-- a number before a byte that is no digit
 pub numbers : (m n c d : ℕ) (r s : List ℕ) → m < 2 ^ 64 → n < 2 ^ 64 → is_ascii_digit c ≡ false → is_ascii_digit d ≡ false
     → decimal m ++ c ∷ r ≡ decimal n ++ d ∷ s → (m ≡ n) × (c ∷ r ≡ d ∷ s)
 numbers m n c d r s small_m small_n not_c not_d e =

@@ -1,4 +1,4 @@
--- What a line of a text tells: a reply line its place, a journal line its client and its request line.
+-- What a line of a text says: a reply line its place, a journal line its client and its request line.
 use Rattle.std.proofs.Common.{◌≡◌, ℕ, ◌^◌, ◌<◌, List, ◌∷◌, ◌++◌, drop, codes, decimal, Option, Some, None, IfSome, refl, sym, ap, ◌∙◌, append_assoc}
 use Rattle.key_names.specs.Names.{name_at}
 use Rattle.key_map.specs.declared.update.Update.{Update}
@@ -17,7 +17,7 @@ use Rattle.text_laws.proofs.Quotes.{quoted_same}
 
 -- ---- replies
 
--- the text begins with this place, and a comma stands behind it
+-- the text begins with this place, and a comma stands after it
 abbrev pub Begins : Option ℕ → List ℕ → Type 0
 Begins at text = (rest : List ℕ) × (text ≡ spec.place_text at ++ 44 ∷ rest)
 

@@ -1,5 +1,5 @@
 -- Helper: the headline does not rest on this file.
--- A text has one first wrong line at most, and none exactly where it is the text of a legal run.
+-- A text has at most one first wrong line, and none exactly if it is the text of a legal run.
 use Rattle.std.specs.Prelude.{◌≡◌, ◌↔◌, ℕ, ◌^◌, ◌<◌, List, length, All}
 use Rattle.key_names.specs.Names.{Rises}
 use Rattle.bucket_terms.specs.LegalRun.{RequestLine, Run, IsLegal}

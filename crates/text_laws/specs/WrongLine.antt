@@ -41,7 +41,7 @@ AreJournal checked earlier texts updates = ⊥
 abbrev pub setting : Checked → List Update → ℕ → Setting
 setting checked updates client = record { dir = checked.dir; updates = updates; client = client; slots = checked.slots client }
 
--- given the earlier answers of the client, the text is the line of this reply, which is right in a legal run: where the
+-- given the earlier answers of the client, the text is the line of this reply, which is right in a legal run: if the
 -- history has an update of the request line, the reply stands at its place
 pub record IsReplyLine (checked : Checked) (updates : List Update) (client : ℕ) (earlier : List Answered) (asked : RequestLine) (text : List ℕ) (placed : Placed) : Type 0 where
   pub answered : IsAnswered (setting checked updates client) earlier asked placed
@@ -70,7 +70,7 @@ reply_texts checked texts client = take (length (lines_of checked.parts client))
 abbrev pub journal_texts : Checked → List (List ℕ) → List (List ℕ)
 journal_texts checked texts = take (length texts - requests_of checked.parts - 1) (drop (requests_of checked.parts) texts)
 
--- the first `count` of the client's reply lines are right, or all where there are fewer
+-- the first `count` of the client's reply lines are right, or all if there are fewer
 abbrev pub FirstReplies : Checked → List Update → List (List ℕ) → (client count : ℕ) → Type 0
 FirstReplies checked updates texts client count =
     (replies : List Placed) × AreReplies checked updates client [] (take count (lines_of checked.parts client)) (take count (reply_texts checked texts client)) replies

@@ -1,4 +1,4 @@
-//! Laws on a text that is checked against a session: which line is its first wrong one, and that there is one at most.
+//! Laws on a text that is checked against a session: which line is its first wrong one, and that there is at most one.
 //! No code: the calls do nothing, and their clauses are what is proved.
 #![tactic(auto)]
 

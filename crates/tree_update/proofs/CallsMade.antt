@@ -1,4 +1,4 @@
--- An update that a try has carried out, and what a snapshot tells of a key.
+-- An update that a try has carried out, and what a snapshot shows of a key.
 use Rattle.std.proofs.Common.{◌≡◌, ◌↔◌, ◌⊎◌, ℕ, ◌+◌, ◌-◌, ◌<◌, ◌≤◌, List, [], ◌∷◌, ◌++◌, length, drop, Bool, true, false, arith, refl, ap, sym, ◌∙◌, subst, Option, Some, None, is_some, Ok, Err, IsErrOf, MatchBool, inl, inr}
 use Rattle.std.proofs.lemmas.Bool.Decides.{nat_tests}
 use Rattle.std.proofs.lemmas.List.{length-append, take-append-drop, length_push}
@@ -33,7 +33,7 @@ abbrev is_removal : Change → Bool
 is_removal (Put val) = false
 is_removal Remove = true
 
--- the nodes after an update, in the words of a call
+-- the nodes after an update, as a call states them
 made_nodes : (change : Change) (was : Bool) (old new : ℕ) → TryMovesNodes change was old new
     → (is_removal change ≡ true → was ≡ true) → MovesNodes change was old new
 made_nodes (Put val) false old new moves found = moves
@@ -135,7 +135,7 @@ made_as v w n m line key change aim done number key_is change_is is was =
 pub has_made_more : (u v w : View) (n line key : ℕ) (change : Change) (done : Done) → StaysOn u v → HasMade v w n line key change done → HasMade u w n line key change done
 has_made_more u v w n line key change done on is = (made_more u v w n line key change done on.goes is.0, fixes_more u v w on.fixes is.1)
 
--- a call is refused for this cause exactly where it stands
+-- a call is refused for this cause exactly if the cause holds
 pub refused_spent : (v : View) (e : PassError) → IsRefusal v (Some e) → {T : Type 0} → IsErrOf {T = T} (Err e) Spent ↔ (v.history.left ≡ 0)
 refused_spent v Spent is = (λ _. is, λ _. refl)
 refused_spent v NoSlot is = (λ err. absurd (no_slot_spent err), λ left. absurd (omega (arith, is.0, left)))

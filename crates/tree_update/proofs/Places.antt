@@ -1,4 +1,5 @@
--- The place that a removal answers, or a put that is made only where its key is not there, from earlier in the call on.
+-- The place that the answer of a removal gives, or of a put that is made only if its key is not there, from earlier in
+-- the call on.
 use Rattle.std.proofs.Common.{◌≡◌, ℕ, Bool, true, false, ap, sym, subst, arith}
 use Rattle.std.specs.Prelude.{MatchBool}
 use Rattle.index_words.specs.declared.view.View.{View}

@@ -49,7 +49,7 @@ taken_unused v = either (λ u. u.unused) (is_empty v.batch) (taken_of v) v v.unu
 pub taken_waits : (w : View) → is_empty w.batch ≡ false → batch_taken w ≡ w
 taken_waits w waits = ap (λ b. cond b (taken_of w) w) waits
 
--- where no slot waits, nothing is to be freed
+-- if no slot waits, nothing is to be freed
 empty_list : {X : Type 0} (xs : List X) → eqb (length xs) 0 ≡ true → xs ≡ []
 empty_list [] none = refl
 empty_list (x ∷ xs) none = let long : length (x ∷ xs) ≡ 0 = eqb-true (length (x ∷ xs)) 0 none in absurd (omega arith)
@@ -137,7 +137,7 @@ times_more g pass word n x = by (has pass g.passed) (lets_pass (first_found pass
     by false false = omega (arith, times_push n x g.found (record { pass = pass; word = word }))
     by _ _ = omega arith
 
--- a word that was noted last is the first one that was found of a pass of which none was noted
+-- the word that was noted last is the first one found of a pass if none was noted for it
 abbrev word_in : Option SectionFound → Option ℕ
 word_in o = option_map (λ (f : SectionFound). f.word) o
 
@@ -174,7 +174,7 @@ same_if : (n m : ℕ) (b : Bool) → eqb n m ≡ b → not b ≡ false → n ≡
 same_if n m true is other = eqb-true n m is
 same_if n m false is other = cc
 
--- who is not passed by a look was found inside, by the same word as at first, once more than before
+-- a pass that is not passed by a look was found inside, by the same word as at first, once more than before
 pub record FoundInside (g : Looks) (pass word : ℕ) : Type 0 where
   pub odd : is_even word ≡ false
   pub first : first_found pass (looked_at g pass word).found ≡ Some word
@@ -303,7 +303,7 @@ module _ (p q : Pass) (other m : ℕ) (one : HasLookedAt p other m q.view) where
         times_second : times_found other n w.grace.found ≡ times_found other n q.view.grace.found + 1
         times_second = ap (λ (g : Looks). times_found other n g.found) grace_second ∙ (found_inside q.view.grace other n at_second).times
 
--- what the second look comes to
+-- the answer of the second look
 pub seen_again : (p q : Pass) (other m : ℕ) (r : PassLook) (w : View) → IsSamePass p q → other < p.view.layout.passes → other ≢ p.number
     → HasLookedAt p other m q.view → has other q.view.grace.passed ≡ false → IsSeen q other r w → IsSeenAgain p other r w
 seen_again p q other m Freed w same low apart_from one new is = freed_second p q other m one w is
@@ -328,7 +328,7 @@ module _ (passes : ℕ) (v : View) (y : ℕ) where
       = ap (λ n. all_passed passes n (batch_taken v).grace.passed) (taken_number v) ∙ passed_all passes v.number (batch_taken v).grace.passed others in
       ap (settled passes) (section_taken v y) ∙ ap (λ b. cond b (batch_freed (in_section (batch_taken v) y)) (in_section (batch_taken v) y)) all
 
-  -- and the leave behind it leaves that
+  -- and the leave after it leaves that
   pub left_settled : PassedOthers passes v.number (batch_taken v).grace.passed → (e w : View) (x : ℕ) → e ≡ entered passes v y → w ≡ left e x → HasSettled v w
   left_settled others e w x first second =
       let is : w ≡ left (batch_freed (in_section (batch_taken v) y)) x = second ∙ ap (λ u. left u x) (first ∙ entered_freed others) in
@@ -347,7 +347,7 @@ module _ (passes : ℕ) (v : View) (y : ℕ) where
       ∙ ap (λ (r : Reading). record (apart_from_slots v) { reading = r; update = record v.update { added = None } }) (sym rest)
       ∙ ap (λ (a : Option ℕ). record (apart_from_slots v) { update = record v.update { added = a } }) (sym none)
 
--- from the start of a try over the looks so far
+-- from the start of a try through the looks so far
 module _ (v u : View) (taking : IsTaking v u) where
   pub freed_from : (w : View) → w ≡ batch_freed (batch_taken u) → w ≡ batch_freed (batch_taken v)
   freed_from w is = is ∙ ap batch_freed taking
@@ -396,7 +396,7 @@ taken_entries v = by (is_empty v.batch) refl
     by true is = omega (arith, empty_entries v.batch is)
     by false is = refl
 
--- so a try to settle keeps the counts of slots
+-- a try to settle keeps the counts of slots
 pub settled_counts : (v w : View) → HasSettled v w → KeepsSlotCounts v w
 settled_counts v w s = record {
   nodes = omega (

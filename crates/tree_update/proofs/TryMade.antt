@@ -84,7 +84,7 @@ opened_grown p b n opened =
 pub opened_counted : (p : Pass) (b x : View) (n : ℕ) → HasOpened p 0 n b → (failed : Failed) → IsCounted failed b x → IsCounted failed p.view x
 opened_counted p b x n opened failed rose = counted_later failed p.view b x (opened_grown p b n opened) rose
 
--- a section in which no node is locked, behind its begin and in the search
+-- a section in which no node is locked, after its begin and in the search
 pub inside_at : (b x : View) (n at : ℕ) → b.reading.section ≡ Some at → IsTrying x n [] → x.reading.section ≡ b.reading.section → InsideAt x at
 inside_at b x n at reads trying same = record {
   section = same ∙ reads;
@@ -148,6 +148,6 @@ module _ (p : Pass) (b x : View) (n : ℕ) (opened : HasOpened p 0 n b) (keeps :
         moves = omega (arith, keeps.grown.moves, ap (λ (c : Counts). c.moves) same);
       }
 
-  -- the count of a failure behind the search has risen in the try
+  -- the count of a failure after the search has risen in the try
   pub try_counted : (failed : Failed) (w : View) → IsCounted failed x w → IsCounted failed v w
   try_counted failed w rose = counted_later failed v x w searched_grown rose

@@ -18,8 +18,8 @@ use Rattle.table_steps.specs.Raises.{IsRaisedSince}
 use Rattle.table_steps.specs.Stamps.{IsFoundSince}
 use Rattle.update_search.specs.Outcomes.{HasRisen}
 
--- the pass made no update: what it has seen goes on, its own updates, how many it may still make and how many slots it owns
--- are as before, and no look is forgotten
+-- the pass made no update: what it has seen goes on, its own updates, how many it may still make and how many slots it
+-- owns are unchanged, and no look is forgotten
 pub record GoesOn (v w : View) : Type 0 where
   pub seen : Extends v.history.seen w.history.seen
   pub mine : w.history.mine ≡ v.history.mine
@@ -49,13 +49,13 @@ pub record MakesUpdate (v w : View) (n line key : ℕ) (change : Change) (at : �
   pub entries : owned_entries v ≤ owned_entries w + 4
   pub looks : v.history.looks ≤ w.history.looks
 
--- how many nodes the pass owns then: one fewer after a put of a key that was not there, as many after one of a key that was,
--- and one more after a removal, which finds its key
+-- how many nodes the pass owns then: one fewer after a put of a key that was not there, as many after a put of a key
+-- that was, and one more after a removal, which finds its key
 abbrev pub MovesNodes : Change → Bool → ℕ → ℕ → Type 0
 MovesNodes (Put val) was old new = new + (if was then 0 else 1) ≡ old
 MovesNodes Remove was old new = (was ≡ true) × (new ≡ old + 1)
 
--- an update was made, with this answer: `was` tells whether its key was in the map before
+-- an update was made, with this answer: `was` says whether its key was in the map before
 pub record MakesChange (v w : View) (n line key : ℕ) (change : Change) (done : Done) : Type 0 where
   pub update : MakesUpdate v w n line key change done.at
   pub was : done.was ≡ map_has key (after w.history.seen (done.at - 1))
@@ -66,7 +66,7 @@ pub record MakesPut (v w : View) (n line key val : ℕ) (done : Done) : Type 0 w
   pub made : MakesChange v w n line key (Put val) done
   pub fixes : FixesNone v w
 
--- a look has told whether the key is there at the place that the last load of the stamp has fixed, in this call: no
+-- a look has shown whether the key is there at the place that the last load of the stamp has fixed, in this call: no
 -- update was made
 pub record LooksFor (v w : View) (key : ℕ) (there : Bool) (at : ℕ) : Type 0 where
   pub goes : GoesOn v w
@@ -75,7 +75,7 @@ pub record LooksFor (v w : View) (key : ℕ) (there : Bool) (at : ℕ) : Type 0 
   pub looks : HasRisen v.history.looks w.history.looks
   pub tells : map_has key (after w.history.seen at) ≡ there
 
--- a removal was answered: `was` tells whether the key was there
+-- a removal was answered: `was` says whether the key was there
 abbrev pub AnswersRemoval : View → View → ℕ → ℕ → ℕ → Done → Type 0
 AnswersRemoval v w n line key done = MatchBool done.was (MakesChange v w n line key Remove done) (LooksFor v w key false done.at)
 
@@ -83,7 +83,7 @@ AnswersRemoval v w n line key done = MatchBool done.was (MakesChange v w n line 
 abbrev pub Inserts : View → View → ℕ → ℕ → ℕ → ℕ → ℕ → Type 0
 Inserts v w n line key val at = MakesChange v w n line key (Put val) (record { at = at; was = false })
 
--- a put that is made only where its key is not there was answered
+-- a put that is made only if its key is not there was answered
 abbrev pub AnswersPutNew : View → View → ℕ → ℕ → ℕ → ℕ → New → Type 0
 AnswersPutNew v w n line key val (Made at) = Inserts v w n line key val at
 AnswersPutNew v w n line key val (Kept at) = LooksFor v w key true at
@@ -98,8 +98,8 @@ abbrev pub IsPlaceOfRemoval : Pass → ℕ → ℕ → Done → View → Type 0
 IsPlaceOfRemoval p line key done w =
     MatchBool done.was (IsRaisedSince p (update_of p.number line key Remove) done.at w) (IsFoundSince p done.at w)
 
--- the place that a put answers which is made only where its key is not there: where it was made that of its own raise, and
--- else the number that was found in the stamp at a step of the call
+-- the place that the answer of a put gives which is made only if its key is not there: if it was made, that of its own
+-- raise, and else the number that was found in the stamp at a step of the call
 abbrev pub IsPlaceOfNew : Pass → ℕ → ℕ → ℕ → New → View → Type 0
 IsPlaceOfNew p line key val (Made at) w = IsRaisedSince p (update_of p.number line key (Put val)) at w
 IsPlaceOfNew p line key val (Kept at) w = IsFoundSince p at w
@@ -108,7 +108,7 @@ IsPlaceOfNew p line key val (Kept at) w = IsFoundSince p at w
 abbrev pub IsOutOfSlots : View → Type 0
 IsOutOfSlots v = (0 < v.history.left) × ((owned_nodes v < 1) ⊎ (owned_entries v < 4))
 
--- why the pass can make no update, where it cannot
+-- why the pass can make no update, if it cannot
 abbrev pub IsRefusal : View → Option PassError → Type 0
 IsRefusal v None = (0 < v.history.left) × (1 ≤ owned_nodes v) × (4 ≤ owned_entries v)
 IsRefusal v (Some Spent) = v.history.left ≡ 0

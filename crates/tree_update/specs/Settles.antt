@@ -19,7 +19,7 @@ use Rattle.tree_update.specs.declared.settle.Settling.TheVariants.{Settled, Held
 abbrev pub apart_from_slots : View → View
 apart_from_slots v = record v { section_word = 0; free = no_slots; retired = no_slots; batch = no_slots; grace = no_looks; unused = no_slots }
 
--- all else is as it was: the history, what was counted, what was read, and the rest
+-- all else is unchanged: the history, what was counted, what was read, and the rest
 abbrev pub KeepsAllElse : View → View → Type 0
 KeepsAllElse v w = apart_from_slots w ≡ apart_from_slots v
 
@@ -49,11 +49,12 @@ pub record HasSettled (v w : View) : Type 0 where
   pub retired : w.retired ≡ retired_of v
   pub unused : w.unused ≡ apart_from (batch_of v) v.unused
 
--- the batch waits: the view is as it was but that the batch was taken, and for new looks
+-- the batch waits: the view is unchanged, except that the batch was taken, and that there are new looks
 abbrev pub HasBatch : View → View → Type 0
 HasBatch v w = w ≡ record (batch_taken v) { grace = w.grace }
 
--- the view where a batch was taken and a look at another pass found this word, before the test whether the batch becomes free
+-- the view where a batch was taken and a look at another pass found this word, before the test whether the batch
+-- becomes free
 abbrev pub looks_on : View → ℕ → ℕ → View
 looks_on v other word = record (batch_taken v) { grace = looked_at (batch_taken v).grace other word }
 
@@ -63,7 +64,7 @@ pub record HasLookedAt (p : Pass) (other word : ℕ) (w : View) : Type 0 where
   pub waits : is_empty w.batch ≡ false
   pub event : Happened p.view.layout (looking p other) p.view word w
 
--- what a look comes to
+-- the answer of a look
 abbrev pub IsSeen : Pass → ℕ → PassLook → View → Type 0
 IsSeen p other Freed w = w ≡ batch_freed (batch_taken p.view)
 IsSeen p other Passed w = (word : ℕ) × HasLookedAt p other word w × (has other w.grace.passed ≡ true)
@@ -73,7 +74,7 @@ IsSeen p other (Inside word) w = HasLookedAt p other word w × (has other w.grac
 abbrev pub IsTaking : View → View → Type 0
 IsTaking v w = batch_taken w ≡ record (batch_taken v) { grace = (batch_taken w).grace }
 
--- who was passed stays so
+-- a pass that was passed stays so
 abbrev pub KeepsPassed : View → View → Type 0
 KeepsPassed v w = (n : ℕ) → has n (batch_taken v).grace.passed ≡ true → has n (batch_taken w).grace.passed ≡ true
 
@@ -85,19 +86,19 @@ found_of v = (batch_taken v).grace.found
 abbrev pub KeepsFound : View → View → Type 0
 KeepsFound v w = (n word : ℕ) → times_found n word (found_of v) ≤ times_found n word (found_of w)
 
--- the pass is the own one, or was passed
+-- the pass is the view's own one, or was passed
 abbrev pub IsDoneWith : ℕ → View → Type 0
 IsDoneWith other v = is_number other v.number ≡ false → has other (batch_taken v).grace.passed ≡ true
 
--- the looks at one pass are done with: it is the own one, or was passed, and the batch waits
+-- the looks at one pass are finished: it is the view's own one, or was passed, and the batch waits
 pub record HasPassed (v : View) (other : ℕ) (w : View) : Type 0 where
   pub taking : IsTaking v w
   pub keeps : KeepsPassed v w
   pub found : KeepsFound v w
   pub done : IsDoneWith other w
 
--- this word was found as another pass's section word by two looks at least since the batch was taken, the last of them
--- in this call, with which it ends
+-- this word was found as another pass's section word by at least two looks since the batch was taken; the last of them
+-- was in this call, which ends with it
 pub record FoundTwice (p : Pass) (seat word : ℕ) (w : View) : Type 0 where
   pub before : View
   pub batch : HasBatch p.view before
@@ -114,12 +115,12 @@ pub record IsHeld (p : Pass) (seat word : ℕ) (w : View) : Type 0 where
   pub batch : HasBatch p.view w
   pub twice : FoundTwice p seat word w
 
--- what a try to settle comes to
+-- the answer of a try to settle
 abbrev pub HasTried : Pass → Settling → View → Type 0
 HasTried p Settled w = HasSettled p.view w
 HasTried p (Held seat word) w = IsHeld p seat word w
 
--- what the looks at one pass come to
+-- the answer of the looks at one pass
 abbrev pub IsSeenAgain : Pass → ℕ → PassLook → View → Type 0
 IsSeenAgain p other Freed w = w ≡ batch_freed (batch_taken p.view)
 IsSeenAgain p other Passed w = HasPassed p.view other w

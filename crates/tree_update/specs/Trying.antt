@@ -1,4 +1,4 @@
--- What one try of an update comes to.
+-- The answer of one try of an update.
 use Rattle.std.specs.Prelude.{◌≡◌, ℕ, ◌<◌, Bool, true, Option}
 use Rattle.index_words.specs.declared.view.View.{View}
 use Rattle.key_map.specs.declared.pass.Done.{Done}
@@ -32,19 +32,20 @@ abbrev pub EndsBy : Change → View → ℕ → Option Parted → Type 0
 EndsBy (Put val) v n parted = AtRest v
 EndsBy Remove v n parted = EndsAs v n parted
 
--- why a try of this change was not made: the search has not found the key of a removal; or it has found the key, and the change was
--- to be made only where it is not there; or the count of the failure has risen, for what another pass did
+-- why a try of this change was not made: the search has not found the key of a removal; or it has found the key, and
+-- the change was to be made only if the key is not there; or the count of the failure has risen, because of what
+-- another pass did
 abbrev pub IsMissed : Bool → ℕ → Change → View → View → Missed → Type 0
 IsMissed only_new key change v w Absent = change ≡ Remove
 IsMissed only_new key change v w There = only_new ≡ true
 IsMissed only_new key change v w (Failed failed) = IsCounted failed v w × ¬ IsAlone w
 
--- what holds where a try has made its update, by its answer
+-- what holds if a try has made its update, by its answer
 abbrev pub IfDone : Try → (Done → Type 0) → Type 0
 IfDone (Made done) fact = fact done
 IfDone _ fact = Unit {0}
 
--- what holds where it has not, for this cause
+-- what holds if it has not, for this cause
 abbrev pub IfBusy : Try → Type 0 → Type 0
 IfBusy Busy fact = fact
 IfBusy _ fact = Unit {0}
@@ -57,7 +58,7 @@ abbrev pub IfPending : Try → Type 0 → Type 0
 IfPending Pending fact = fact
 IfPending _ fact = Unit {0}
 
--- what holds where it has not, for whatever cause
+-- what holds if it has not, for whatever cause
 abbrev pub UnlessDone : Try → Type 0 → Type 0
 UnlessDone (Made done) fact = Unit {0}
 UnlessDone _ fact = fact

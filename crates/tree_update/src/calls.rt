@@ -1,8 +1,8 @@
 //! The calls that update the map: a put, a put that is made only where the key is not there, and a removal.
 //!
-//! Each tries until a try comes through. It waits between the tries alone: outside of the section, with no lock held
-//! and nothing pending, so that no other pass waits for it meanwhile. A removal may wait behind its update too, with
-//! two locks held, as `ending` says.
+//! Each tries until a try succeeds. It waits only between the tries: outside of the section, with no lock held and
+//! nothing pending, so that no other pass waits for it meanwhile. A removal may also wait after its update, with two
+//! locks held, as `ending` says.
 ghost use Rattle.std.specs.Prelude.{◌≡◌, ◌↔◌, ◌<◌, ◌≤◌, None, is_some, IfOk, IfSome, IsErrOf, OnErr};
 ghost use Rattle.key_map.specs.Map.{value_at};
 ghost use Rattle.table_steps.specs.Passes.{AtRest, IsSamePass};
@@ -20,7 +20,7 @@ use snapshot_read::{begin, end, next_from};
 use std::sync::Wait;
 use table_steps::TablePass;
 
-/// Whether the pair is the key's.
+/// Whether the pair has this key.
 fn is_of_key(pair: Option<Pair>, key: u64) -> bool
     ensures { result ≡ is_some (value_at key pair) }
 {
@@ -30,7 +30,7 @@ fn is_of_key(pair: Option<Pair>, key: u64) -> bool
     }
 }
 
-/// Why the pass can make no update, where it cannot.
+/// Why the pass can make no update, if it cannot.
 fn refusal(pass: &TablePass<'_>) -> Option<PassError>
     ensures { IsRefusal pass.now.view result }
 {
@@ -63,7 +63,7 @@ fn look_for<R: Wait>(pass: &mut TablePass<'_>, rt: &R, key: u64) -> Done
     }
 }
 
-/// One try of a removal. Where its search has not found the key, a snapshot tells whether it is there.
+/// One try of a removal. If its search has not found the key, a snapshot shows whether it is there.
 fn try_removal<R: Wait>(
     pass: &mut TablePass<'_>,
     rt: &R,
@@ -99,7 +99,7 @@ fn try_removal<R: Wait>(
     }
 }
 
-/// One try of a put that is made only where the key is not there. Where its search has found the key, a snapshot tells
+/// One try of a put that is made only if the key is not there. If its search has found the key, a snapshot shows
 /// whether it is there.
 fn try_new<R: Wait>(
     pass: &mut TablePass<'_>,
@@ -153,7 +153,7 @@ fn make_put<R: Wait>(pass: &mut TablePass<'_>, rt: &R, line: u32, key: u64, val:
     unreachable!()
 }
 
-/// Tries a put that is made only where the key is not there until it is made, or until a snapshot shows that the key is
+/// Tries a put that is made only if the key is not there, until it is made, or until a snapshot shows that the key is
 /// there.
 fn make_new<R: Wait>(pass: &mut TablePass<'_>, rt: &R, line: u32, key: u64, val: u64) -> New
     requires rest { AtRest pass.old.view }
@@ -217,8 +217,8 @@ pub fn put<R: Wait>(
     }
 }
 
-/// Puts the key with this value where it is not there, for the request line `line`. Where it is there, no update is
-/// made: the answer is that of a snapshot. The conditions on calls and slots are the same then.
+/// Puts the key with this value if it is not there, for the request line `line`. If it is there, no update is made: the
+/// answer is that of a snapshot. The conditions on calls and slots are the same then.
 pub fn put_new<R: Wait>(
     pass: &mut TablePass<'_>,
     rt: &R,
@@ -241,13 +241,13 @@ pub fn put_new<R: Wait>(
     }
 }
 
-/// Takes the key out, for the request line `line`. Where it is not there, no update is made: the answer is that of a
+/// Takes the key out, for the request line `line`. If it is not there, no update is made: the answer is that of a
 /// snapshot. The conditions on calls and slots are the same then.
 ///
-/// It may wait where `put` does, and in one case more: where the removed node has two children and its successor hangs
+/// It may wait where `put` does, and in one more case: if the removed node has two children and its successor hangs
 /// further down, it returns only once each other pass was outside a section since the removal took effect. So it does
-/// not return while another pass stays in a section, as one does whose snapshot is open; readers, and updates at other
-/// nodes, go on meanwhile.
+/// not return while another pass stays in a section, as a pass does whose snapshot is open; readers, and updates at
+/// other nodes, go on meanwhile.
 pub fn remove<R: Wait>(
     pass: &mut TablePass<'_>,
     rt: &R,

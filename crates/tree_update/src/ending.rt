@@ -1,9 +1,9 @@
-//! The wait of a removal whose successor hangs further down, and what comes behind it.
+//! The wait of a removal whose successor hangs further down, and what comes after it.
 //!
-//! The removal has taken effect, and its copy of the successor is linked. The successor itself stays where it is until
-//! each other pass was outside a section since, so that one on its way to it still finds it. The pass waits for that
-//! outside of a section, with nothing announced and nothing pending: two of these waits pass one another, and neither a
-//! reader nor a pass that cuts or settles waits for this one.
+//! The removal has taken effect, and its copy of the successor is linked. The successor itself stays in its place until
+//! each other pass was outside a section since, so that a pass on its way to it still finds it. The pass waits for that
+//! outside of a section, with nothing announced and nothing pending: two such waits do not block each other, and no
+//! reader, and no pass that cuts or settles, waits for this one.
 ghost use Rattle.std.specs.Prelude.{◌≡◌, ◌<◌, Some};
 ghost use Rattle.pass_slots.specs.Owned.{KeepsLooks};
 ghost use Rattle.plan_laws.specs.Frames.{KeepsOwned};
@@ -70,8 +70,8 @@ fn wait_for_others<R: Wait>(pass: &mut TablePass<'_>, rt: &R, parted: &Parted)
     unreachable!()
 }
 
-/// Ends a removal that has taken effect: where its successor hangs further down, it waits, and unlinks it. The return
-/// rests on the other passes: each has to be outside a section once.
+/// Ends a removal that has taken effect: if its successor hangs further down, it waits, and unlinks it. The return
+/// depends on the other passes: each has to be outside a section once.
 pub(crate) fn end_removal<R: Wait>(pass: &mut TablePass<'_>, rt: &R, parted: Option<Parted>)
     requires ends { EndsAs pass.old.view pass.old.number parted }
     ensures same { IsSamePass pass.old pass.new }

@@ -1,10 +1,10 @@
 //! How a pass that owns too few entries for an update gets some.
 //!
-//! An update cuts the bundles that it changes, and owns what it cuts. So the entries of a pass come to hang in bundles
-//! that other passes change, or that nobody changes any more, and without four entries it makes no update that would
-//! bring some back. Before its next update such a pass goes along the keys, and cuts what nobody reads without an update:
-//! in sections of its own, in each of which it locks the nodes at one key, cuts, and gives the locks back. Where others
-//! still read what hangs there, it waits for them, for a bounded time.
+//! An update cuts the bundles that it changes, and owns what it cuts. So over time the entries of a pass hang in
+//! bundles that other passes change, or that nobody changes any more; without four entries it can make no update that
+//! would bring some back. Before its next update such a pass goes along the keys and cuts, without an update, what
+//! nobody reads: in sections of its own, in each of which it locks the nodes at one key, cuts, and gives the locks
+//! back. If others still read what hangs there, it waits for them, for a bounded time.
 ghost use Rattle.std.specs.Prelude.{◌≡◌, ◌≤◌};
 ghost use Rattle.plan_laws.specs.Answers.{owned_entries};
 ghost use Rattle.table_steps.specs.Passes.{AtRest, IsSamePass};
@@ -17,21 +17,21 @@ use table_steps::TablePass;
 use update_search::{Aim, begin_search, find_aim};
 use update_try::cut_found;
 
-/// So many entries an update may take.
+/// How many entries an update may take; with fewer each update is refused.
 const NEEDED: usize = 4;
 
-/// A pass of so many entries has those that an update may take behind its next update too, even if nothing is cut: an
+/// A pass that owns this many entries has enough for an update after its next one too, even if nothing is cut: an
 /// update puts at most two entries in front of bundles, and for each entry of its new node's links it gets one or more
-/// back, with the node that goes out. So a pass that gathers goes on until it owns as many.
+/// back, with the node that goes out. So a pass that gathers goes on until it owns this many.
 const ENOUGH: usize = 6;
 
-/// At so many keys the pass cuts before it looks whether others still read what hangs there.
+/// At how many keys the pass cuts before it looks whether others still read what hangs there.
 const STRETCH: u32 = 16;
 
-/// So many stretches it goes, at most, with a wait between two where others read.
+/// The most stretches that it goes, with a wait between two of them if others read.
 const STRETCHES: u32 = 128;
 
-/// Where the next search begins: right after the key that this one has found; where it has found none, at the next key,
+/// Where the next search begins: right after the key that this one has found; if it has found none, at the next key,
 /// which it has met on its way. None after the last key.
 fn next_key(aim: &Aim) -> Option<u64> {
     match aim {
@@ -66,7 +66,7 @@ fn cut_at(pass: &mut TablePass<'_>, key: u64) -> Option<u64>
 }
 
 /// Goes along some keys, from this one on, until the pass owns enough entries. Answers where to go on: after the last
-/// key at the first one again.
+/// key, at the first one again.
 #[tactic(auto, using(crate::proofs::GatherSteps::gathers_more))]
 fn go_along(pass: &mut TablePass<'_>, from: u64) -> u64
     requires rest { AtRest pass.old.view }
@@ -87,9 +87,9 @@ fn go_along(pass: &mut TablePass<'_>, from: u64) -> u64
     key
 }
 
-/// Cuts old entries, which nobody reads, until the pass owns as many as an update may take. It may find none, where all
+/// Cuts old entries, which nobody reads, until the pass owns as many as an update may take. It may find none, if all
 /// that hangs is still read. Then it waits for the least number that is read to rise, and tries again, for a bounded
-/// time. Answers that number where all was in vain, and gives up as soon as it finds `vain`.
+/// time. Answers that number if all was in vain, and gives up as soon as it finds `vain`.
 #[tactic(auto, using(crate::proofs::GatherSteps::gathers_more, crate::proofs::GatherSteps::stays_gathers))]
 fn gather_needed(pass: &mut TablePass<'_>, vain: Option<u64>) -> Option<u64>
     requires rest { AtRest pass.old.view }
@@ -112,9 +112,9 @@ fn gather_needed(pass: &mut TablePass<'_>, vain: Option<u64>) -> Option<u64>
     waited
 }
 
-/// Gets entries, where the pass owns a node, and fewer entries than an update may take: it cuts old ones, which nobody
-/// reads. It makes no update, and takes no memory. Where others still read what hangs it waits for them, for a bounded
-/// time. Answers the least number that was read where all was in vain; a later call that is given it as `vain` does not
+/// Gets entries, if the pass owns a node, and fewer entries than an update may take: it cuts old ones, which nobody
+/// reads. It makes no update, and takes no memory. If others still read what hangs it waits for them, for a bounded
+/// time. Answers the least number that was read if all was in vain; a later call that is given it as `vain` does not
 /// wait for it again.
 #[tactic(auto, using(crate::proofs::GatherSteps::gathers_nothing))]
 pub fn gather(pass: &mut TablePass<'_>, vain: Option<u64>) -> Option<u64>

@@ -1,6 +1,6 @@
 //! Updates on the running table: the calls that put, put a new key and remove, one try of a put, and how slots become
-//! free. A try is a search, which finds the plan of an update, and then carries the plan out. Before its updates a caller
-//! may let a pass of few entries gather old ones.
+//! free. A try is a search, which finds the plan of an update, and then carries the plan out. Before its updates a
+//! caller may let a pass with few entries gather old ones.
 #![tactic(auto)]
 
 mod calls;

@@ -7,7 +7,7 @@ ghost use Rattle.tree_update.specs.Settles.{HasSettled, HasTried, IsSeen, IsSeen
 
 use table_steps::TablePass;
 
-/// What a try to settle comes to.
+/// The answer of a try to settle.
 #[derive(Clone, Copy, Debug, PartialEq, Eq)]
 pub enum Settling {
     /// Every slot of the batch is free, or nothing was retired.
@@ -17,7 +17,7 @@ pub enum Settling {
     Held { seat: u32, word: u64 },
 }
 
-/// What looks at another pass come to.
+/// The answer of looks at another pass.
 #[derive(Clone, Copy, Debug, PartialEq, Eq)]
 pub(crate) enum PassLook {
     /// The batch is free.
@@ -48,8 +48,8 @@ fn look_once(pass: &mut TablePass<'_>, other: u32) -> PassLook
     PassLook::Inside(word)
 }
 
-/// Looks at another pass, twice at most, where the batch has not passed it. The second look tells whether the pass is
-/// in the section still in which the first one found it.
+/// Looks at another pass, twice at most, if the batch has not passed it. The second look shows whether the pass is
+/// still in the section in which the first one found it.
 fn look_at(pass: &mut TablePass<'_>, other: u32) -> PassLook
     requires rest { AtRest pass.old.view }
     requires there { other < pass.old.view.layout.passes }
@@ -67,7 +67,7 @@ fn look_at(pass: &mut TablePass<'_>, other: u32) -> PassLook
     }
 }
 
-/// Frees the batch where each other pass was passed.
+/// Frees the batch once each other pass was passed.
 fn free_passed(pass: &mut TablePass<'_>)
     requires rest { AtRest pass.old.view }
     requires passed { PassedOthers pass.old.view.layout.passes pass.old.view.number (batch_taken pass.old.view).grace.passed }
@@ -81,8 +81,8 @@ fn free_passed(pass: &mut TablePass<'_>)
     pass.leave();
 }
 
-/// Tries to free the slots that wait. Where no batch waits, all retired slots become the batch. It looks at each other
-/// pass that the batch has not passed; with the last one that it passes the batch is free. It takes no memory and never
+/// Tries to free the slots that wait. If no batch waits, all retired slots become the batch. It looks at each other
+/// pass that the batch has not passed; once the batch has passed the last one, it is free. It takes no memory and never
 /// waits.
 pub fn try_settle(pass: &mut TablePass<'_>) -> Settling
     requires rest { AtRest pass.old.view }

@@ -17,44 +17,44 @@ use table_steps::TablePass;
 use update_search::{Aim, Failed, begin_search, find_aim};
 use update_try::{Carried, carry_out, plan_slots};
 
-/// Why one try of an update was not made. It has changed nothing.
+/// Why one try of an update was not made. The try has changed nothing.
 #[derive(Clone, Copy, Debug, PartialEq, Eq)]
 pub(crate) enum Missed {
-    /// The search has not found the key of a removal: at the number at which it read it was not there.
+    /// The search has not found the key of a removal: at the number at which it read the key was not there.
     Absent,
-    /// The search has found the key of a put that is made only where the key is not there.
+    /// The search has found the key of a put that is made only if the key is not there.
     There,
-    /// The count of this failure has risen, for what another pass did. A later try may come through.
+    /// The count of this failure has risen, because of what another pass did. A later try may succeed.
     Failed(Failed),
 }
 
-/// What one try of a put comes to.
+/// The answer of one try of a put.
 #[derive(Clone, Copy, Debug, PartialEq, Eq)]
 pub enum Try {
     /// The put is made.
     Done(Done),
     /// A lock was found held: another pass is changing the tree there.
     Busy,
-    /// What the search had found has changed since, or was on its way out: a node is marked, or a plain link or its tag
-    /// is another one.
+    /// What the search had found has changed since, or was about to go out: a node is marked, or a plain link or its
+    /// tag is another one.
     ///
-    /// That takes a step of another pass since this try has begun, or one that stands still between the marks of its
-    /// update and the plain link that it sets behind them; a pass that stands still elsewhere in an update is met as
+    /// This needs a step of another pass since this try began, or a pass that has stopped between the marks of its
+    /// update and the plain link that it sets after them; a pass that has stopped elsewhere in an update is met as
     /// `Busy`.
     Moved,
-    /// It does not come: a search follows plain links, which have no numbers to wait for. The variant is one of the
-    /// specification's.
+    /// It never occurs: a search follows plain links, which have no numbers to wait for. The specification requires
+    /// this variant.
     Pending,
 }
 
-/// Whether an update is kept out by its key, which was found though it is to be made only where it is not there.
+/// Whether an update that is made only if its key is not there is not made, because the key was found.
 fn is_kept_out(only_new: bool, aim: &Aim) -> bool
     ensures { result ≡ (only_new && has_found aim.now) }
 {
     only_new && !matches!(aim, Aim::Grow { .. })
 }
 
-/// Leaves the section where nothing was locked.
+/// Leaves the section if nothing was locked.
 pub(crate) fn give_up(pass: &mut TablePass<'_>, at: u64)
     requires reads { InsideAt pass.old.view at }
     ensures same { IsSamePass pass.old pass.new }
@@ -65,9 +65,9 @@ pub(crate) fn give_up(pass: &mut TablePass<'_>, at: u64)
     pass.close_section();
 }
 
-/// One try of an update, in a section of its own, with these slots. The enter takes no free slot away, so they are free
-/// still where the plan is carried out. With `only_new` it is made only where its key is not there. It never waits: a
-/// removal that has to is not at rest behind it.
+/// One try of an update, in a section of its own, with these slots. The enter takes no free slot away, so they are
+/// still free where the plan is carried out. With `only_new` the update is made only if its key is not there. The try
+/// never waits: a removal that has to wait is not at rest after it.
 pub(crate) fn try_update(
     pass: &mut TablePass<'_>,
     line: u32,
@@ -138,13 +138,13 @@ fn try_with(pass: &mut TablePass<'_>, line: u32, key: u64, val: u64, slots: &Pla
     }
 }
 
-/// Tries once to put the key with this value, for the request line `line`. It takes no memory and never waits: where it
-/// meets what another pass is doing, it gives all back and tells what it has met, and the count of this has risen. A
-/// pass that is alone on its table meets nothing: its try is made, or refused by an error.
+/// Tries once to put the key with this value, for the request line `line`. It takes no memory and never waits: if it
+/// meets what another pass is doing, it gives everything back and reports what it has met, and the count of this has
+/// risen. A pass that is alone on its table meets nothing: its try is made, or refused by an error.
 ///
 /// # Errors
-/// `Spent` where no call is left. `NoSlot` where calls are left, but no node or fewer than four entries are free; a try
-/// does not free retired slots first. The pass is then unchanged.
+/// `Spent` if no call is left. `NoSlot` if calls are left, but no node or fewer than four entries are free; a try does
+/// not free retired slots first. The pass is then unchanged.
 pub fn try_put(pass: &mut TablePass<'_>, line: u32, key: u64, val: u64) -> Result<Try, PassError>
     requires rest { AtRest pass.old.view }
     ensures same { IsSamePass pass.old pass.new }

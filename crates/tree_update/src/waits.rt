@@ -1,5 +1,5 @@
-//! What a call waits for, outside of a section: free slots before an update, and, where it cuts without one, that others
-//! read no more what it could cut.
+//! What a call waits for, outside of a section: free slots before an update, and, if it cuts without one, that others
+//! no longer read what it could cut.
 ghost use Rattle.std.specs.Prelude.{◌≡◌, ◌<◌, ◌≤◌, is_some, true};
 ghost use Rattle.core_events.specs.Announcing.{smaller};
 ghost use Rattle.table_steps.specs.Passes.{AtRest, Inside, IsSamePass};
@@ -15,14 +15,14 @@ use table_steps::TablePass;
 use update_search::begin_search;
 use update_try::plan_slots;
 
-/// How many pauses of the processor stand before the yield.
+/// How many pauses of the processor come before the yield.
 const PAUSES: u32 = 32;
 
-/// So often a pass looks at the others again, at most, before it tries once more.
+/// How often, at most, a pass looks at the others again before it tries once more.
 const LOOKS: u32 = 256;
 
-/// What a wait does between two tries: a short spin, since another pass may be done soon where it runs on a processor
-/// of its own, and then a yield, which lets other threads run.
+/// What a wait does between two tries: a short spin, since a pass that runs on another processor may be done soon, and
+/// then a yield, which lets other threads run.
 pub(crate) fn pause() {
     for _ in 0..PAUSES {
         spin_loop();
@@ -38,7 +38,7 @@ pub(crate) struct Sight {
     pub least: u64,
 }
 
-/// The smaller one of a number and the announced one, of which `word` is what the announcement holds.
+/// The smaller of a number and the announced one; `word` is what the announcement holds.
 fn lower(number: u64, word: u64) -> u64
     ensures smaller { result ≡ smaller number word }
     ensures low { result ≤ number }
@@ -50,7 +50,7 @@ fn lower(number: u64, word: u64) -> u64
     }
 }
 
-/// Looks at what a pass has announced, where it is another one, and answers the smaller one of that and `least`.
+/// Looks at what a pass has announced, if it is another one, and answers the smaller of that and `least`.
 fn look_at_announced(pass: &mut TablePass<'_>, other: u32, least: u64) -> u64
     requires inside { Inside pass.old.view }
     requires reads { is_some pass.old.view.reading.section ≡ true }
@@ -88,9 +88,9 @@ fn look_around(pass: &mut TablePass<'_>) -> Sight
     Sight { own, least }
 }
 
-/// Waits until more may be cut: until the least number that is read, which is that of all updates so far where nobody
-/// reads at an older one, has risen. Where keys are left and nobody reads at an older one, the pass may go on at once.
-/// The wait is bounded, and there is none for the number `vain`. Answers the number where it has not risen.
+/// Waits until more may be cut: until the least number that is read has risen, which is that of all updates so far if
+/// nobody reads at an older one. If keys are left and nobody reads at an older one, the pass may go on at once. The
+/// wait is bounded, and there is none for the number `vain`. Answers the number if it has not risen.
 pub(crate) fn wait_for_more(
     pass: &mut TablePass<'_>,
     keys_left: bool,

@@ -94,7 +94,7 @@ all_back index first second last other all of_last of_other is_first is_second =
 
 -- ---- one thread
 
--- a put is made where calls and slots are left
+-- a put is made if calls and slots are left
 made : (put : Result Done PassError) (old : PassView) → (IsErrOf put Spent ↔ (old.left ≡ 0)) → (IsErrOf put NoSlot ↔ IsOutOfSlots old)
     → 0 < old.left → 0 < old.nodes → 4 ≤ old.entries → IsOk put
 made (Ok done) old spent no_slot left nodes entries = refl

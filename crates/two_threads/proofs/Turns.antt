@@ -32,7 +32,7 @@ extends_get : (seen history : List Update) (i : ℕ) (u : Update) → Extends se
 extends_get seen history i u (more, is) here =
     ap (λ us. slice_get us i) is ∙ slice_get-append_front seen more i (slice_get_within seen i u here) ∙ here
 
--- and give the same maps
+-- a list of updates and one that begins with them give the same maps at the places of the first
 extends_after : (seen history : List Update) (t : ℕ) → Extends seen history → t ≤ length seen → after history t ≡ after seen t
 extends_after seen history t (more, is) le = ap (λ us. after us t) is ∙ after-append seen more t le
 

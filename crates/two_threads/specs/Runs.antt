@@ -1,4 +1,4 @@
--- What a run of the two threads came to.
+-- What a run of the two threads found.
 use Rattle.std.specs.Prelude.{◌≡◌, ℕ, ◌+◌, ◌<◌, ◌≤◌, Bool, true, if◌then◌else◌, List, [], ◌∷◌, ◌++◌, length, None, IsOk}
 use Rattle.key_map.specs.declared.pass.PassSize.{PassSize}
 use Rattle.key_map.specs.declared.update.Update.{Update}
@@ -26,7 +26,7 @@ pub record LaidDown (index : Home) (dir : List (List ℕ)) (query : ListQuery) (
   pub of : IsKeyOf index left.key
   pub took : TookTurn dir query task (shown key) (shown left.key) left.turn
 
--- the pass of the index is as it was, but that it may have seen more and that its node slots may be other ones
+-- the pass of the index is as it was, except that it may have seen more and that its node slots may be other ones
 pub record IsBack (index : Home) (old new : Pass) : Type 0 where
   pub of : IsKeyOf index new
   pub number : (shown new).number ≡ (shown old).number
@@ -42,7 +42,7 @@ pub record HandedOn (index : Home) (first second giver taker : Pass) (handed : B
   pub given : (shown giver).nodes + (if handed then 1 else 0) ≡ (shown first).nodes
   pub taken : (shown taker).nodes ≡ (shown second).nodes + (if handed then 1 else 0)
 
--- both turns of a thread are right in the history, which has no updates of the thread but their puts
+-- both turns of a thread are right in the history, whose only updates of the thread are their puts
 pub record IsThread (dir : List (List ℕ)) (query : ListQuery) (history : List Update) (thread : ℕ) (tasks : Tasks) (turns : Turns) : Type 0 where
   pub early_task : turns.early.task ≡ tasks.early
   pub late_task : turns.late.task ≡ tasks.late
@@ -55,7 +55,7 @@ pub record IsRun (dir : List (List ℕ)) (query : ListQuery) (first second : Tas
   pub first_is : IsThread dir query ran.history.items 0 first ran.first
   pub second_is : IsThread dir query ran.history.items 1 second ran.second
   pub only : Every (λ (u : Update). u.client < 2) ran.history.items
-  -- what was refused
+  -- which puts were not refused
   pub early_made : IsOk ran.first.early.put × IsOk ran.second.early.put
   pub first_made : IsOk ran.first.late.put
   pub second_made : ran.handed ≡ true → IsOk ran.second.late.put

@@ -1,5 +1,6 @@
-//! A first program over the shared index, to be copied: two threads with a pass each put, look up and list names at once,
-//! a node slot goes from one to the other, and the index is closed to its history. `run` says what its answers are.
+//! A first program over the shared index, to be copied: two threads with a pass each put, look up and list names at
+//! once, a node slot goes from one to the other, and the index is closed to its history. `run` says what its answers
+//! are.
 #![tactic(auto)]
 
 mod run;
@@ -45,7 +46,7 @@ fn all_names(alloc: Global) -> Result<ListQuery, NoMemory> {
     })
 }
 
-/// Each thread puts two names, and looks those of the other one up.
+/// Each thread puts two names, and looks up those of the other one.
 fn run_over<Rt: Threads + Wait + Sync>(
     rt: &Rt,
     alloc: Global,

@@ -12,8 +12,8 @@ use std::alloc::Global;
 use std::sync::Wait;
 use std::thread::{Threads, join};
 
-/// The slots of the two passes, and how many updates each may make. The second pass has one node slot for its two puts: it
-/// needs one more, which the first pass hands on.
+/// The slots of the two passes, and how many updates each may make. The second pass has one node slot for its two puts:
+/// it needs one more, which the first pass hands on.
 const SIZES: [PassSize; 2] = [
     PassSize {
         nodes: 3,
@@ -41,7 +41,7 @@ pub(crate) struct Turns {
     pub(crate) late: Turn,
 }
 
-/// What a run came to: what each thread was answered, whether a slot was handed on, and the one history of both threads.
+/// What a run found: what each thread was answered, whether a slot was handed on, and the one history of both threads.
 #[derive(Drop)]
 pub(crate) struct Ran {
     pub(crate) first: Turns,
@@ -104,7 +104,7 @@ fn both_turns<Rt: Threads + Wait + Sync>(
     Ok((first?, second?))
 }
 
-/// Hands a free node slot of the first pass on to the second one, where the first has one.
+/// Hands a free node slot of the first pass on to the second one, if the first has one.
 fn hand_on(index: &SharedIndex, first: PassKey, second: PassKey) -> (PassKey, PassKey, bool)
     requires first { IsKeyOf index.now first }
     requires second { IsKeyOf index.now second }
@@ -142,8 +142,8 @@ fn both(mut keys: Vec<PassKey>) -> (PassKey, PassKey)
     (first, second)
 }
 
-/// Runs the two threads: a turn of each at once, a slot that goes from one to the other, and a turn of each at once again.
-/// Then the index is closed to its history.
+/// Runs the two threads: a turn of each at once, a slot that goes from one to the other, and a turn of each at once
+/// again. Then the index is closed to its history.
 pub(crate) fn run<Rt: Threads + Wait + Sync>(
     rt: &Rt,
     alloc: Global,

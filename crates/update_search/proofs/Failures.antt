@@ -1,4 +1,4 @@
--- How a search fails: a mark that it finds, or a lock that is held, is counted, and comes on no table of one pass.
+-- How a search fails: a mark that it finds, or a lock that is held, is counted, and is not met on a table of one pass.
 use Rattle.std.proofs.Common.{◌≡◌, ℕ, ◌<◌, ◌≤◌, List, true, arith, refl, ap, inl, inr}
 use Rattle.index_words.specs.declared.layout.Layout.{Layout}
 use Rattle.index_words.specs.declared.view.View.{View}

@@ -74,7 +74,7 @@ module _ (laws : SearchLaws) where
     pub key_places : (node x : ℕ) → KeepsPlaces v (pair_loaded v Key node x)
     key_places node x = record { keeps = (laws.steps v).key node x; trying = (laws.loads v).key node x; waits = refl }
 
-  -- and loads of what no lock is held at
+  -- and loads at a place where no lock is held
   module _ (v : View) (node : ℕ) (unlocked : ¬ IsLocked v node) (w : View) where
     pub link_search : (side : Side) (x : ℕ) → w ≡ link_loaded v node side x → KeepsSearch v w
     link_search side x view =

@@ -1,4 +1,4 @@
--- One level of a search: it goes on by a link, and comes to a node, whose key it loads, or to a null link.
+-- One level of a search: it goes on by a link, and reaches a node, whose key it loads, or a null link.
 use Rattle.std.proofs.Common.{◌≡◌, ℕ, ◌<◌, [], ◌∷◌, ◌++◌, length, cond, true, arith, refl, ap, ◌∙◌, sym, subst, inl, inr, Option, Some, None}
 use Rattle.std.specs.Prelude.{◌&&◌}
 use Rattle.std.proofs.lemmas.Bool.{eq-eqb, ne_eqb}

@@ -101,7 +101,7 @@ module _ (laws : SearchLaws) (p : Pass) (n : ℕ) (nodes : List ℕ) (trying : I
 
   -- it was found free
   module _ (locks : HasLocked p node w) where
-    -- a search comes to no node that its own seat has taken out
+    -- a search reaches no node that its own seat has taken out
     pub locked_other : count node v.retired.nodes ≡ 0
     locked_other =
         let h = locks.event in

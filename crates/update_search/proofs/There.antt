@@ -1,4 +1,4 @@
--- What the rule says of a view with no lock held: no update is under way. So a search begins.
+-- What the rule says of a view with no lock held: no update is under way. So a search may begin.
 use Rattle.std.proofs.Common.{◌≡◌, ℕ, [], arith, ap, Some}
 use Rattle.index_words.specs.declared.view.View.{View}
 use Rattle.index_words.specs.Views.{no_update}
@@ -26,7 +26,7 @@ module _ (v : View) (live : IsLiveView v) where
   pub idle_unlocked : v.held.nodes ≡ [] → v.update ≡ no_update
   idle_unlocked bare = (seat_at v.layout m s.views s.rule.meaning s.seat v at s.rule.rule).section.done bare
 
--- behind the begin of its section, where a pass reads at a number, its search begins
+-- after the begin of its section, where a pass reads at a number, its search begins
 pub opened_at_top : (p : Pass) (n : ℕ) (w : View) (own : ℕ) → HasOpened p 0 n w → Inside w → IsLiveView w → w.number ≡ Some own → IsAtTop w
 opened_at_top p n w own opened inside live named = record {
   number = own;

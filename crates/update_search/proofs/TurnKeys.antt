@@ -1,4 +1,5 @@
--- The turns of a search, and the keys between them: a search goes on at such keys alone, and there are fewer of them behind each turn.
+-- The turns of a search, and the keys between them: a search goes on at such keys alone, and there are fewer of them
+-- after each turn.
 use Rattle.std.proofs.Common.{◌≡◌, ℕ, ◌+◌, ◌-◌, ◌<◌, ◌≤◌, ◌^◌, ◌⊎◌, Bool, true, false, arith, refl, inl, inr, subst, Option, Some, None}
 use Rattle.std.specs.Prelude.{nat_lt, ◌&&◌, if◌then◌else◌}
 use Rattle.std.proofs.lemmas.Bool.Decides.{nat_tests}

@@ -1,4 +1,4 @@
--- The node of a turn is another one than each at which the search goes on behind it: the keys differ.
+-- The node of a turn is another one than each at which the search goes on after it: the keys differ.
 use Rattle.std.proofs.Common.{◌≡◌, ℕ, ◌<◌, ◌≤◌, ◌⊎◌, List, arith, refl, ap, ◌∙◌, sym, subst, Option, Some}
 use Rattle.index_words.specs.declared.side.Side.{Side}
 use Rattle.index_words.specs.declared.side.Side.TheVariants.{Left, Right}

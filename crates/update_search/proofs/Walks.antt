@@ -36,7 +36,7 @@ use Rattle.update_search.proofs.TurnKeys.{IsBetween, uncrossed}
 use Rattle.update_search.proofs.TurnNodes.{IsTurn, left_is, right_is}
 
 module _ (u : View) (first : Walk) (on : IsOnWalk u first) where
-  -- the walk has come to this place, where the view is this
+  -- the walk has reached this place, where the view is this
   pub record OnWay (v : View) (walk : Walk) : Type 0 where
     pub come : HasCome v walk.at walk.node walk.turns
     pub right : walk.turns.right ≡ first.turns.right
@@ -72,7 +72,7 @@ module _ (laws : SearchLaws) (u : View) (first : Walk) (on : IsOnWalk u first) w
         (laws.no_return (table v.layout s.words s.views) s.seat v walk.node None Right on.removed above.held s.rule (item_at s.views s.seat v s.at) (before_raise v on.number on.nodes trying)
         way.come.place (way.come.turned.right ∙ turns_right) removed_unmarked above.locked above.unmarked).1 leads.0 above.leads
 
-    -- so it is not locked
+    -- it is not locked
     pub node_off_first : ¬ IsLocked u walk.node
     node_off_first locked = not_back (on.locked walk.node locked)
 

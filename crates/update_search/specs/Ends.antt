@@ -20,7 +20,7 @@ pub record EndsMissing (v : View) (key : ℕ) (gap : Gap) : Type 0 where
 abbrev pub IsMissing : View → ℕ → Type 0
 IsMissing v key = (gap : Gap) × EndsMissing v key gap
 
--- it has come to the key's node, which is another one than that above it
+-- it has reached the key's node, which is not the node above it
 pub record IsFoundAt (v : View) (key : ℕ) (found : KeyNode) : Type 0 where
   pub here : HasKeyAt v found.at found.node key found.turns
   pub parent : IsSearched v found.at.node

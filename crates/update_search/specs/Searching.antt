@@ -15,7 +15,7 @@ use Rattle.update_search.specs.declared.turns.Turns.{Turns}
 use Rattle.update_search.specs.Outcomes.{KeepsPlaces}
 use Rattle.update_search.specs.Turns.{HasTurns, no_turns}
 
--- a pass behind the begin of its section, with no node locked: its search begins at the root
+-- a pass after the begin of its section, with no node locked: its search begins at the root
 pub record IsAtTop (v : View) : Type 0 where
   pub number : ℕ
   pub trying : IsTrying v number []
@@ -23,13 +23,13 @@ pub record IsAtTop (v : View) : Type 0 where
   pub turns : HasTurns v no_turns
   pub none : v.reading.links ≡ []
 
--- a search has come to the node by this link, with these turns up to it, and has not loaded its key
+-- a search has reached the node by this link, with these turns up to it, and has not loaded its key
 pub record HasCome (v : View) (at : Link) (node : ℕ) (turns : Turns) : Type 0 where
   pub place : v.reading.place ≡ AtNode node None
   pub turned : HasTurns v turns
   pub link : RemembersLink v at node
 
--- it has come there, and the node has this key
+-- it has reached the node, and the node has this key
 pub record HasKeyAt (v : View) (at : Link) (node key : ℕ) (turns : Turns) : Type 0 where
   pub place : v.reading.place ≡ AtNode node (Some key)
   pub turned : HasTurns v turns

@@ -14,12 +14,12 @@ use Rattle.update_search.specs.declared.successor.NextFound.{NextFound}
 use Rattle.update_search.specs.declared.successor.Walk.{Walk}
 use Rattle.update_search.specs.Searching.{HasCome}
 
--- the node is the removed one, or its plain link was found to lead to that one, under its lock
+-- the node is the removed one, or its plain link was found, under its lock, to lead to the removed one
 abbrev pub LeadsTo : View → ℕ → ℕ → Type 0
 LeadsTo v removed k = (k ≡ removed) ⊎ ((side : Side) × HoldsLink v k side removed)
 
--- A walk has come to a node, to the right of the removed one, which is locked and was found unmarked. No other node is locked but
--- the one above it.
+-- A walk has reached a node to the right of the removed one, which is locked and was found unmarked. No other node is
+-- locked but the one above it.
 pub record IsOnWalk (v : View) (walk : Walk) : Type 0 where
   pub number : ℕ
   pub nodes : List ℕ
@@ -33,9 +33,9 @@ pub record IsOnWalk (v : View) (walk : Walk) : Type 0 where
   pub held : HoldsLink v removed.node side child
   pub locked : (k : ℕ) → IsLocked v k → LeadsTo v removed.node k
 
--- It has ended at a node with this key and without a left child, which hangs at this link: the key is above that of the removed
--- node, and its left link was found null between the two. The node is not locked. It is the one where the walk began, or that above it is
--- not locked either.
+-- It has ended at a node with this key and without a left child, which hangs at this link: the key is above that of the
+-- removed node, and its left link was found null between the two. The node is not locked. It is the one where the walk
+-- began, or the node above it is not locked either.
 pub record IsNext (v : View) (walk : Walk) (found : NextFound) : Type 0 where
   pub removed : Turn
   pub from : walk.turns.right ≡ Some removed

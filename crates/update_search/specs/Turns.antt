@@ -17,7 +17,7 @@ turned_at Right turn ts = record ts { right = Some turn }
 abbrev pub side_to : ℕ → ℕ → Side
 side_to key here = if nat_lt key here then Left else Right
 
--- the turn beyond which the key does not lie: the last one to the left comes first
+-- the turn beyond which the key does not lie: the last one to the left is tested first
 abbrev pub beyond_right : Option Turn → ℕ → Option Turn
 beyond_right None key = None
 beyond_right (Some t) key = if nat_lt t.key key then None else Some t

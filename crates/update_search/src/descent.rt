@@ -1,7 +1,7 @@
 //! The search for a key, down the plain links.
 //!
-//! Other passes set these links meanwhile. So a search may come to a node that was taken out, and go on from it; what
-//! it finds is looked at again under locks. Each node at which it goes on has its key strictly between those of the two
+//! Other passes set these links meanwhile. So a search may reach a node that was taken out, and go on from it; what it
+//! finds is looked at again under locks. Each node at which it goes on has its key strictly between the keys of the two
 //! turns, so the search ends.
 ghost use Rattle.std.specs.Prelude.{◌≡◌, IfOk, IfErr};
 ghost use Rattle.core_events.specs.PlainMoves.{tag_loaded};
@@ -23,15 +23,15 @@ use table_steps::TablePass;
 pub struct Gap {
     pub at: Link,
     pub tag: u64,
-    /// The key at which the search last went on to the left. It tells a caller where the next search may begin, and
-    /// nothing rests on it: other passes may put keys below it, or take it out.
+    /// The key at which the search last went on to the left. It gives a caller a place where the next search may begin,
+    /// and nothing rests on it: other passes may put keys below it, or take it out.
     pub above: Option<u64>,
 }
 
 /// A node at which a search has ended: it has the key.
 #[derive(Clone, Copy, Debug, PartialEq, Eq)]
 pub struct KeyNode {
-    /// The link by which the search came to it.
+    /// The link by which the search reached it.
     pub at: Link,
     pub node: u32,
     /// The turns up to that link.
@@ -46,7 +46,7 @@ pub(crate) enum End {
     Found(KeyNode),
 }
 
-/// Finds the mark of one of the two: of the node, which is locked, or of the turn's node.
+/// Finds the mark of one of two nodes: the node, which is locked, or the turn's node.
 fn find_mark(pass: &mut TablePass<'_>, node: u32, turn: Turn)
     requires odd { HoldsOdd pass.old.view node turn }
     ensures same { IsSamePass pass.old pass.new }
@@ -65,8 +65,8 @@ fn find_mark(pass: &mut TablePass<'_>, node: u32, turn: Turn)
     unreachable!()
 }
 
-/// Why a search cannot go on at a node whose key does not lie beyond a turn: one of the two was taken out. The mark of
-/// the turn's node shows it, or the node waits to be unlinked: then it is locked, or is marked by now.
+/// Why a search cannot go on at a node whose key does not lie beyond a turn: one of the two nodes was taken out. The
+/// mark of the turn's node shows it, or the node waits to be unlinked: then it is locked, or is marked by now.
 pub(crate) fn meet_odd(pass: &mut TablePass<'_>, node: u32, turn: Turn) -> Failed
     requires odd { MeetsOdd pass.old.view node turn }
     ensures same { IsSamePass pass.old pass.new }
@@ -121,7 +121,7 @@ pub(crate) fn find_end(pass: &mut TablePass<'_>, key: u64) -> Result<End, Failed
         if node == 0 {
             return Ok(End::Missing(end_at(pass, at, turns)));
         }
-        // They are near then, once the key has told the side.
+        // The links are in the cache by the time the key has given the side.
         pass.fetch_links(node);
         let here = pass.load_key(node);
         if let Some(turn) = turns.crossed_by(here) {

@@ -1,7 +1,7 @@
 //! The search of an update on the running table: from the root down the plain links, to what a try is to do
-//! (`find_aim`), and from a node that is to be removed on to its successor (`find_next`). It takes no lock but to tell
-//! whether a node waits to be unlinked, and it waits for nobody. What it finds is looked at again under locks, by the
-//! layer above.
+//! (`find_aim`), and from a node that is to be removed on to its successor (`find_next`). It takes no lock except to
+//! see whether a node waits to be unlinked, and it never waits for another pass. The layer above looks again, under
+//! locks, at what it finds.
 #![tactic(auto)]
 
 mod descent;

@@ -5,8 +5,8 @@ ghost use Rattle.update_search.specs.Searching.{IsAtTop};
 
 use table_steps::TablePass;
 
-/// Opens a section, and answers the number at which the pass reads bundles in it: that of all updates that it has seen
-/// then. A search does not use it; what the update cuts rests on it.
+/// Opens a section, and answers the number at which the pass reads bundles in it: how many updates it has seen then. A
+/// search does not use it; what the update cuts depends on it.
 pub fn begin_search(pass: &mut TablePass<'_>) -> u64
     requires rest { AtRest pass.old.view }
     ensures same { IsSamePass pass.old pass.new }

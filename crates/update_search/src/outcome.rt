@@ -1,6 +1,6 @@
 //! How a search or a try fails.
 
-/// Why a search or a try has failed. The count of this has risen.
+/// Why a search or a try has failed. The count of this failure has risen.
 #[derive(Clone, Copy, Debug, PartialEq, Eq)]
 pub enum Failed {
     /// A lock was found held.

@@ -27,8 +27,8 @@ pub enum Aim {
         pair: Pair,
         found: KeyNode,
     },
-    /// A removal of a key that it has found. The search has stepped to the right of the key's node, to `right`, 0 for
-    /// none.
+    /// A removal of a key that it has found. The search has stepped to the right of the key's node, to `right`; 0
+    /// stands for none.
     Remove {
         key: u64,
         found: KeyNode,
@@ -36,8 +36,8 @@ pub enum Aim {
     },
 }
 
-/// The removal of a node that was found. The search steps to the right of the node before it is locked: a load of the
-/// node's right link under its lock would move the search.
+/// The removal of a node that was found. The search steps to the right of the node before the node is locked: a load of
+/// the node's right link under its lock would move the search.
 fn aim_at_removal(pass: &mut TablePass<'_>, key: u64, found: KeyNode) -> Aim
     requires found { IsFoundAt pass.old.view key found }
     requires trying { (n : ℕ) × IsTrying pass.old.view n [] }
@@ -52,7 +52,7 @@ fn aim_at_removal(pass: &mut TablePass<'_>, key: u64, found: KeyNode) -> Aim
 }
 
 /// What a try of the update is to do: the search for its key goes from the root down the plain links. None for a
-/// removal of a key that it has not found: it has ended at a null link for it.
+/// removal of a key that it has not found: the search has ended at a null link for the key.
 ///
 /// # Errors
 /// The search has met a node that was taken out, and cannot go on there.

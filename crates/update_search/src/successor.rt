@@ -19,17 +19,17 @@ use table_steps::TablePass;
 /// Where a walk to a successor stands.
 #[derive(Clone, Copy, Debug, PartialEq, Eq)]
 pub struct Walk {
-    /// The link by which it came to the node.
+    /// The link by which it reached the node.
     pub at: Link,
     pub node: u32,
-    /// The turns up to that link; the last one to the right is the node that is to be removed.
+    /// The turns up to that link; the last one to the right is at the node that is to be removed.
     pub turns: Turns,
 }
 
 /// A node without a left child, at which a walk to a successor has ended.
 #[derive(Clone, Copy, Debug, PartialEq, Eq)]
 pub struct NextFound {
-    /// The link by which the walk came to it.
+    /// The link by which the walk reached it.
     pub at: Link,
     pub node: u32,
     /// Its left link: no key is between that of the node that is to be removed and its own.

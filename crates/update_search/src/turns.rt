@@ -8,7 +8,7 @@ ghost use Rattle.update_search.specs.Turns.{no_turns, beyond, turned_at, side_to
 use core_trees::{Link, ROOT};
 use index_words::{Side, Turn};
 
-/// The last turns of a search. A turn that was not made yet is no bound.
+/// The last turns of a search. A turn that was not made yet sets no bound.
 #[derive(Clone, Copy, Debug, PartialEq, Eq)]
 pub struct Turns {
     /// The node at which the search last went on to the left: the keys are below its key.
@@ -34,7 +34,7 @@ impl Turns {
         }
     }
 
-    /// The turn beyond which the key does not lie, where there is one.
+    /// The turn beyond which the key does not lie, if there is one.
     pub(crate) fn crossed_by(&self, key: u64) -> Option<Turn>
         ensures { result ≡ beyond self.now key }
     {
@@ -51,7 +51,7 @@ impl Turns {
         None
     }
 
-    /// The key of the last turn to the left, where there is one.
+    /// The key of the last turn to the left, if there is one.
     pub(crate) fn left_key(&self) -> Option<u64>
         ensures { result ≡ turn_key self.now.left }
     {
@@ -59,7 +59,7 @@ impl Turns {
         Some(turn.key)
     }
 
-    /// The turns behind one to this side, at a node with this key.
+    /// The turns after one to this side, at a node with this key.
     pub fn with(&self, side: Side, turn: Turn) -> Turns
         ensures { result ≡ turned_at side turn self.now }
     {

@@ -1,4 +1,4 @@
--- What a try that came through has done, from its begin to its end.
+-- What a try that succeeded has done, from its begin to its end.
 use Rattle.std.proofs.Common.{◌≡◌, ℕ, suc, ◌+◌, ◌≤◌, refl, List, [], ◌∷◌, ◌++◌, length, take, ap, sym, ◌∙◌, subst, arith}
 use Rattle.std.proofs.lemmas.List.{length-append}
 use Rattle.index_words.specs.declared.view.View.{View}

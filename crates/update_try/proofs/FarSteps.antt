@@ -1,4 +1,4 @@
--- A removal with a far successor, step by step, before its wait and behind it.
+-- A removal with a far successor, step by step, before its wait and after it.
 use Rattle.std.proofs.Common.{◌≡◌, ℕ, ◌+◌, ◌<◌, List, [], ◌∷◌, Bool, true, false, cond, eqb, refl, sym, subst, arith, Some, None}
 use Rattle.std.specs.Prelude.{◌==◌}
 use Rattle.std.proofs.lemmas.Bool.Decides.{nat_tests}
@@ -78,7 +78,7 @@ pub to_tag : (v w : View) (n : ℕ) (p : JoinPlan) (tag : ℕ) → IsParting fal
     → IsParted false w n p tag (far_locks p)
 to_tag v w n p tag h now = subst (λ (u : View). IsParted false u n p tag (far_locks p)) (sym now) ((load_far_tag v n p h).parted tag)
 
--- the two locks that are kept stand behind the first ones
+-- the two locks that are kept stand after the first ones
 parent-behind : (p : JoinPlan) → 0 < count p.next.at.node (kept_locks p)
 parent-behind p = first-counts p.next.at.node (count p.next.at.node (p.next.node ∷ []))
 

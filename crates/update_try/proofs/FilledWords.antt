@@ -1,4 +1,4 @@
--- The fills of a try: each is of a word of a free slot of the pass, and one of the table.
+-- The fills of a try: each is of a word of a free slot of the pass, and of a word of the table.
 use Rattle.std.proofs.Common.{◌≡◌, ℕ, ◌<◌, ◌≤◌, ◌&&◌, List, [], ◌∷◌, ◌++◌, ltb, leb, cond, Bool, true, false, refl, ap, sym, ◌∙◌, subst, arith}
 use Rattle.std.proofs.lemmas.Bool.Decides.{nat_tests}
 use Rattle.index_words.specs.declared.layout.Layout.{Layout}
@@ -44,7 +44,7 @@ module _ (v : View) (live : IsLiveView v) where
   fill_there (Entry part e) may = let low = free_entry_there v live e may in entry_there v.layout e low.0 low.1
   fill_there _ may = absurd may
 
--- it rests on the free slots alone
+-- it depends on the free slots alone
 may-kept : (v w : View) → w.free ≡ v.free → (word : Word) → MayFill v word → MayFill w word
 may-kept v w free (Node field k) may = (may.0, subst (λ (s : Slots). 0 < count k s.nodes) (sym free) may.1)
 may-kept v w free (Entry part e) may = subst (λ (s : Slots). 0 < count e s.entries) (sym free) may
@@ -68,7 +68,7 @@ fill-held v f = by (is_even v.section_word)
     by true = refl
     by false = refl
 
--- and so do all
+-- and so do all of them
 pub all-keeps : (v : View) (fs : List Filled) → IsInside v → KeepsTry v (filled_all v fs)
 all-keeps v [] inside = try_same v
 all-keeps v (f ∷ fs) inside =
@@ -90,7 +90,7 @@ pub all-counts : (v : View) (fs : List Filled) → (filled_all v fs).counts ≡ 
 all-counts v [] = refl
 all-counts v (f ∷ fs) = all-counts (filled_view v f.word f.value) fs ∙ fill-counts v f
 
--- one list of them behind another
+-- one list of them after another
 pub filled-append : (v : View) (xs ys : List Filled) → filled_all v (xs ++ ys) ≡ filled_all (filled_all v xs) ys
 filled-append v [] ys = refl
 filled-append v (x ∷ xs) ys = filled-append (filled_view v x.word x.value) xs ys

@@ -1,5 +1,5 @@
--- What the rule says of what a search has found: the root uses its right link alone, the node at which it stands is no root, and a
--- node that it has stepped from is another one than that to which it has stepped.
+-- What the rule says of what a search has found: the root uses its right link alone, the node at which it stands is no
+-- root, and a node that it has stepped from is another one than that to which it has stepped.
 use Rattle.std.proofs.Common.{◌≡◌, ℕ, ◌<◌, ◌⊎◌, Bool, true, false, cond, eqb, refl, ap, ◌∙◌, sym, subst, inl, inr, Option, Some, None}
 use Rattle.std.specs.Prelude.{◌&&◌}
 use Rattle.std.proofs.lemmas.Bool.{ne_eqb}
@@ -70,7 +70,8 @@ module _ (v : View) (live : IsLiveView v) where
         | inr right ↦ turn_some Right (record { node = found.node; key = key }) right.2
       ]
 
-  -- a search that has stepped to the right of a node, which is locked and unmarked, stands at no load of its key, nor of its left link
+  -- a search that has stepped to the right of a node, which is locked and unmarked, stands at no load of its key, nor
+  -- of its left link
   module _ (laws : SearchLaws) (before : IsBeforeRaise v) (node key right : ℕ) (h : IsHeldUnmarked v node) (of : IsRightOf v node key right) where
     not_self : v.reading.place ≡ AtNode right None → ¬ (right ≡ node)
     not_self place same =

@@ -307,7 +307,7 @@ module _ (v : View) where
     pub out_unmarked : (place node : ℕ) → slice_get (out_of plan) place ≡ Some node → IsUnmarked v node
     out_unmarked place node is = got-every (IsUnmarked v) (out_of plan) place node (out_looked plan looked.looks) is
 
--- what was looked at stays so
+-- what was looked at stays unchanged
 pub looked_on : (v w : View) (n : ℕ) (plan : Plan) → KeepsSearch v w → HasLookedAll v n plan → HasLookedAll w n plan
 looked_on v w n plan keeps l = record {
   trying = keeps.places.trying n (locks_of plan) l.trying;

@@ -1,4 +1,4 @@
--- Which plain links and tags a try comes to know by a step under its locks.
+-- Which plain links and tags a try learns by a step under its locks.
 use Rattle.std.proofs.Common.{◌≡◌, ℕ, List, [], ◌∷◌, ◌++◌, cond, Bool, true, false, eqb, map, refl, ap, ◌∙◌, sym, subst, Some, None}
 use Rattle.std.proofs.lemmas.Bool.{eqb-true}
 use Rattle.index_words.specs.declared.side.Side.{Side}

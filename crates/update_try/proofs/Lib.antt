@@ -19,7 +19,7 @@ pub mod Done
 pub mod Alone
 -- Counts that rise through a try.
 pub mod Counted
--- Which links and tags a try comes to know.
+-- Which links and tags a try learns.
 pub mod Learns
 -- What is known under a lock is found again.
 pub mod HeldWords

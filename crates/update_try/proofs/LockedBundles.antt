@@ -119,8 +119,8 @@ module _ (v : View) (live : IsLiveView v) where
       let below : IsChain (λ d. m (Entry Next d)) part.2.0 bs = subst (λ k. IsChain (λ d. m (Entry Next d)) k bs) (ap (λ d. m (Entry Next d)) same ∙ next_known node e part.2.0 part.2.1) chain.2 in
       part_every P node part.2.0 entry es bs part.2.2 some below all.1
 
-  -- the entries of a locked node's bundle have numbers, where the node was found unmarked and the pass has none pending: the head, and
-  -- all behind it
+  -- the entries of a locked node's bundle have numbers, where the node was found unmarked and the pass has none
+  -- pending: the head, and all entries after it
   behind_numbered : (node head entry : ℕ) (es bundle : List ℕ) → HoldsPart v node head es entry → 0 < entry → IsChain (λ e. m (Entry Next e)) head bundle
       → TailWritten (λ e. m (Entry Number e)) bundle → (head ≡ 0) ⊎ (0 < m (Entry Number head)) → 0 < m (Entry Number entry)
   behind_numbered node head entry [] bundle part some chain tail first =

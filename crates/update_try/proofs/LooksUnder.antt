@@ -142,7 +142,7 @@ module _ (laws : SearchLaws) (p : Pass) (live : IsLiveView p.view) (node : ℕ) 
       pub link_leads : HoldsLink w node side x
       link_leads = subst (λ (u : View). HoldsLink u node side x) (sym view) (at_node.link side x root unmarked).1
 
-      -- it is another one than the search has found
+      -- the child is another one than the search has found
       module _ (child : ℕ) (found : RemembersLink v (record { node = node; side = side }) child) (other : ¬ (x ≡ child)) where
         abbrev t : Table
         t = table v.layout h.words h.views
@@ -185,7 +185,7 @@ module _ (laws : SearchLaws) (p : Pass) (live : IsLiveView p.view) (node : ℕ) 
     tag_word : held_by tt_table (Node (Tag side) node) ≡ x
     tag_word = happened_word v.layout (loading_tag p node side) v w x (Node (Tag side) node) (node_word v.layout (Tag side) node there) refl tt h
 
-    -- it is another one than the search has found
+    -- the tag is another one than the search has found
     module _ (tag : ℕ) (above below : Option ℕ) (found : RemembersNull v (record { node = node; side = side }) tag above below) (other : ¬ (x ≡ tag)) where
       other_tag : is_other_tag (held_by tt_table (Node (Tag side) node)) found.link.source ≡ true
       other_tag = ap (is_other_tag (held_by tt_table (Node (Tag side) node))) found.source ∙ ap not (ne_eqb tag (held_by tt_table (Node (Tag side) node)) (λ same. other (sym tag_word ∙ sym same)))

@@ -1,4 +1,5 @@
--- A pass that cuts without an update: what each cut asks of it, and what the locks and the unlocks around the cuts leave.
+-- A pass that cuts without an update: what each cut asks of it, and what the locks and the unlocks around the cuts
+-- leave.
 use Rattle.std.proofs.Common.{◌≡◌, ℕ, List, length, ap, arith}
 use Rattle.index_words.specs.declared.view.View.{View}
 use Rattle.index_words.specs.declared.view.slots.Slots.{Slots}

@@ -122,7 +122,7 @@ place_more u v w first second = record {
   pending = second.pending ∙ first.pending;
 }
 
--- at itself a pass does not look
+-- a pass does not look at itself
 pub skips_own : (v : View) (other number : ℕ) → is_number other v.number ≡ true → v.reading.least ≡ Some number → HasLookedAt v other number number v
 skips_own v other number own least = record {
   section = refl;
@@ -154,7 +154,7 @@ module _ (v w : View) (other word number : ℕ) (is : w ≡ ann_loaded v other w
     place = record { held = refl; place = refl; layout = refl; taken = refl; pending = refl };
   })
 
--- so it has looked at one more of the others
+-- it has looked at one more of the others
 pub looked_next : (v w : View) (other number low : ℕ) → HasLookedAt v other number low w → PassedOthers other v.number v.reading.looked → PassedOthers (other + 1) w.number w.reading.looked
 looked_next v w other number low looks before n below apart = by (cases_lt n other)
   where
@@ -164,7 +164,7 @@ looked_next v w other number low looks before n below apart = by (cases_lt n oth
         let same : n ≡ other = omega (arith, more, below) in
         subst (λ k. has k w.reading.looked ≡ true) (sym same) (looks.looked (subst (λ k. is_number k w.number ≡ false) same apart))
 
--- whose announcement may be looked at
+-- the announcement of another pass may be looked at
 pub may_look : (v : View) (other : ℕ) → is_number other v.number ≡ false → other < v.layout.passes → is_some v.reading.section ≡ true → MayLookAnn v other
 may_look v other apart there reads = record { other = λ own. absurd (clash (is_number other v.number) apart (ap (is_number other) own ∙ same other)); there = there; reads = reads }
   where
@@ -369,7 +369,7 @@ module _ (v w : View) (same : KeepsPlace v w) where
         idle = same.pending ∙ s.idle;
       }
 
--- it goes on behind an entry whose number is above
+-- it goes on after an entry whose number is above
 pub goes_on : (v : View) (at : Link) (least head : ℕ) (front : List ℕ) (stop : Stop) → least < stop.number → HasStopped v at least head front stop
     → HasGonePast v at least head (front ++ stop.entry ∷ []) stop.next
 goes_on v at least head front stop above s = record {
@@ -397,7 +397,7 @@ least_still v w l keeps is = record {
       ∙ ap (all_passed v.layout.passes v.number) keeps.looked ∙ is.looked told;
 }
 
--- with all entries behind found too the bundle may be cut
+-- once all entries after it are found too, the bundle may be cut
 module _ (v w : View) (at : Link) (least : Least) (head : ℕ) (front : List ℕ) (stop : Stop) (stays : count at.node v.update.taken ≡ 0) (is : IsLeast v least) (looked : least.looked ≡ true)
     (low : stop.number ≤ least.number) (stopped : HasStopped v at least.number head front stop) (nexts : KeepsNexts v w) (keeps : KeepsLeast v w) (same : w.held.nodes ≡ v.held.nodes) where
   now : IsLeast w least

@@ -56,7 +56,7 @@ unlocked_next v w n node place nodes r is now =
     let next = unlock_step false v.layout v 0 n node (drop (place + 1) nodes) (subst (IsReleasing v n) (drop-got nodes place node is) r) in
     subst (λ (u : View). IsReleasing u n (drop (place + 1) nodes) × KeepsOwned v u) (sym now) (next.released, next.keeps)
 
--- a try that is given up keeps what its steps and the unlocks behind them keep
+-- a try that is given up keeps what its steps and the unlocks after them keep
 pub all_kept : (u v w : View) → KeepsTry u v → v.counts.waits ≡ u.counts.waits → KeepsOwned v w → KeepsAll u w
 all_kept u v w first waits second = record {
   layout = second.layout ∙ first.pass.layout;

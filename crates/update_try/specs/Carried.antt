@@ -10,16 +10,17 @@ use Rattle.key_map.specs.declared.update.Change.TheVariants.{Put, Remove}
 use Rattle.core_updates.specs.Ready.{update_of}
 use Rattle.plan_laws.specs.Answers.{owned_nodes, owned_entries}
 
--- the nodes after an update: one fewer after a put of a key that was absent, as many after one of a key that was there, and one more
--- after a removal
+-- the nodes after an update: one fewer after a put of a key that was absent, as many after a put of a key that was
+-- there, and one more after a removal
 abbrev pub MovesNodes : Change → Bool → ℕ → ℕ → Type 0
 MovesNodes (Put val) false old new = new + 1 ≡ old
 MovesNodes (Put val) true old new = new ≡ old
 MovesNodes Remove was old new = new ≡ old + 1
 
--- from the view before the try to the one after it: the update is the last of the history that the pass has seen then, at this
--- place, which is its own; the others are all updates before it, and begin with those that it had seen; the key was in the map after
--- these or not, as the answer says; and what the pass owns: at most one node fewer, and at most four entries
+-- from the view before the try to the one after it: the update is the last of the history that the pass has seen then,
+-- at this place, which is one of its own; the others are all updates before it, and begin with those that it had seen;
+-- the key was in the map after these or not, as the answer says; the pass owns as many nodes as the change leaves it,
+-- and at most four entries fewer
 pub record HasCarriedOut (v w : View) (n line key : ℕ) (change : Change) (done : Done) : Type 0 where
   pub others : List Update
   pub before : v.history.seen ≡ take (length v.history.seen) others

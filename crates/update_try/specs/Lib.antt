@@ -1,3 +1,4 @@
+-- What the steps of a try ask and leave, from its looks to its end.
 pub mod FreeSlots
 pub mod Outcomes
 pub mod Looking

@@ -1,4 +1,4 @@
--- What a try comes to know under its locks, look by look.
+-- What a try learns under its locks, look by look.
 use Rattle.std.specs.Prelude.{◌≡◌, ℕ, ◌⊎◌, List, Some}
 use Rattle.index_words.specs.declared.side.Side.{Side}
 use Rattle.index_words.specs.declared.view.View.{View}

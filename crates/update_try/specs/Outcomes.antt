@@ -1,11 +1,11 @@
--- How the calls of a try end: where it fails it keeps what the pass knows and owns.
+-- How the calls of a try end: a try that fails keeps what the pass knows and owns.
 use Rattle.std.specs.Prelude.{◌≡◌, ℕ, []}
 use Rattle.index_words.specs.declared.view.View.{View}
 use Rattle.plan_laws.specs.Frames.{CountsGrow}
 use Rattle.plan_laws.specs.Releases.{IsReleasing}
 
--- what a try that fails leaves as it was: what the pass knows of the history, and its slots. No count falls, and that of entries
--- without a number is as it was
+-- what a try that fails leaves unchanged: what the pass knows of the history, and its slots. No count falls, and that
+-- of entries without a number is unchanged
 pub record KeepsAll (v w : View) : Type 0 where
   pub layout : w.layout ≡ v.layout
   pub joined : w.joined ≡ v.joined

@@ -9,7 +9,7 @@ use Rattle.plan_laws.specs.Parting.{IsParted, kept_locks}
 use Rattle.table_steps.specs.Passes.{AtRest}
 use Rattle.update_try.specs.declared.parting.Parted.{Parted}
 
--- the plan, where it is that of a removal with a far successor
+-- the plan, if it is that of a removal with a far successor
 abbrev pub far_of : Plan → Option JoinPlan
 far_of (Join p) = if p.next.at.node == p.node then None else Some p
 far_of _ = None

@@ -1,4 +1,4 @@
--- What a try comes to know under its locks, on the way from its aim to a plan.
+-- What a try learns under its locks, on the way from its aim to a plan.
 use Rattle.std.specs.Prelude.{◌≡◌, ℕ, ◌<◌, ◌⊎◌, List, [], ◌∷◌, ◌==◌, Some, if◌then◌else◌}
 use Rattle.index_words.specs.declared.side.Side.TheVariants.{Left, Right}
 use Rattle.index_words.specs.declared.view.View.{View}
@@ -40,11 +40,12 @@ pub record HoldsNode (v : View) (key : ℕ) (found : KeyNode) (left : ℕ) : Typ
   pub left_link : HoldsLink v found.node Left left
   pub formed : HasNode found.at found.node
 
--- the locks behind those of the node and its parent
+-- the locks after those of the node and its parent
 abbrev pub next_locks : ℕ → NextNode → List ℕ
 next_locks removed next = if next.at.node == removed then next.node ∷ [] else next.at.node ∷ next.node ∷ []
 
--- A walk from a node with this key has ended at its successor: the search has found its key, its link and its null left link.
+-- A walk from a node with this key has ended at its successor: the search has found the successor's key, its link and
+-- its null left link.
 pub record FindsNext (v : View) (key : ℕ) (found : NextFound) : Type 0 where
   pub high : ℕ
   pub above : key < high
@@ -55,8 +56,8 @@ pub record FindsNext (v : View) (key : ℕ) (found : NextFound) : Type 0 where
   pub gap : RemembersNull v found.gap.at found.gap.tag (Some high) (Some key)
   pub apart : ¬ (found.at.node ≡ found.node)
 
--- The successor and its parent are locked; it hangs there, has a greater key and no left child, and each key between is in the gap
--- of its left link.
+-- The successor and its parent are locked; it hangs there, has a greater key and no left child, and each key between is
+-- in the gap of its left link.
 pub record HoldsNext (v : View) (key : ℕ) (next : NextNode) : Type 0 where
   pub at : HoldsLink v next.at.node next.at.side next.node
   pub key_is : HasLoaded v next.node (λ (h : HeldNode). h.key) next.pair.key

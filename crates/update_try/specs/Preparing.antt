@@ -24,12 +24,12 @@ pub record IsPrepared (v : View) (n : ℕ) (plan : Plan) (slots : PlanSlots) : T
   pub prepared : HasPreparedAll v n plan slots heads
   pub walked : HasWalkedAll v plan
 
--- the slot of the new node and the heads of its bundles, 0 for each that there is not
+-- the slot of the new node and the heads of its bundles; 0 stands for none
 abbrev pub new_slots_of : Option NewNode → List ℕ
 new_slots_of None = 0 ∷ 0 ∷ 0 ∷ []
 new_slots_of (Some n) = n.slot ∷ head_of n.left ∷ head_of n.right ∷ []
 
--- the nodes that go out, 0 for each that there is not
+-- the nodes that go out; 0 stands for none
 abbrev pub out_slots_of : Plan → List ℕ
 out_slots_of (Grow p) = 0 ∷ 0 ∷ []
 out_slots_of (Replace p) = p.node ∷ 0 ∷ []

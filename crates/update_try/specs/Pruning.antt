@@ -1,4 +1,4 @@
--- How an update walks along a bundle that it changed, to cut it behind the entries that are still read.
+-- How an update walks along a bundle that it changed, to cut it after the entries that are still read.
 use Rattle.std.specs.Prelude.{◌≡◌, ℕ, ◌<◌, ◌≤◌, List, [], ◌∷◌, ◌++◌, true, false, Some, is_some}
 use Rattle.index_words.specs.declared.view.View.{View}
 use Rattle.key_map.specs.Lists.{count, has}
@@ -15,13 +15,13 @@ use Rattle.update_try.specs.Walked.{StandsOn, HoldsPart}
 use Rattle.update_try.specs.declared.pruning.Least.{Least}
 use Rattle.update_try.specs.declared.pruning.Stop.{Stop}
 
--- an update whose entries have their numbers stands as it did, and so does a pass that cuts without an update
+-- an update whose entries have their numbers stands as before, and so does a pass that cuts without an update
 pub record KeepsUpdate (v w : View) : Type 0 where
   pub numbered : (n : ℕ) (plan : Plan) (slots : PlanSlots) → HasNumbered v n plan slots → StaysNumbered v w n plan slots
   pub cutting : (n : ℕ) (nodes : List ℕ) → IsCutting v n nodes → StaysCutting v w n nodes
 
--- and so do the section number, the least number, the passes at which the pass has looked for it, and what its update
--- took out
+-- the section number, the least number, the passes at which the pass has looked for it, and what its update took out
+-- are unchanged
 pub record KeepsLeast (v w : View) : Type 0 where
   pub section : w.reading.section ≡ v.reading.section
   pub least : w.reading.least ≡ v.reading.least
@@ -30,7 +30,7 @@ pub record KeepsLeast (v w : View) : Type 0 where
   pub layout : w.layout ≡ v.layout
   pub taken : w.update.taken ≡ v.update.taken
 
--- where the pass stands, and what it has found under its locks, is as it was
+-- where the pass stands, and what it has found under its locks, is unchanged
 pub record KeepsPlace (v w : View) : Type 0 where
   pub held : w.held ≡ v.held
   pub place : w.reading.place ≡ v.reading.place
@@ -38,14 +38,14 @@ pub record KeepsPlace (v w : View) : Type 0 where
   pub taken : w.update.taken ≡ v.update.taken
   pub pending : w.update.pending ≡ v.update.pending
 
--- this is the least number of a pass that has a section number; where it has looked, it has looked at every other pass
--- for it
+-- this is the least number of a pass that has a section number; if `looked` is set, the pass has looked at every other
+-- pass for it
 pub record IsLeast (v : View) (l : Least) : Type 0 where
   pub reads : is_some v.reading.section ≡ true
   pub least : v.reading.least ≡ Some l.number
   pub looked : l.looked ≡ true → all_passed v.layout.passes v.number v.reading.looked ≡ true
 
--- the pass has looked at one more pass, where that is another one, and this is its least number then
+-- the pass has looked at one more pass, if that is another one, and this is its least number then
 pub record HasLookedAt (v : View) (other number low : ℕ) (w : View) : Type 0 where
   pub section : w.reading.section ≡ v.reading.section
   pub least : w.reading.least ≡ Some low
@@ -62,8 +62,8 @@ pub record IsChanged (v : View) (at : Link) : Type 0 where
   pub stays : count at.node v.update.taken ≡ 0
   pub idle : v.update.pending ≡ []
 
--- from the head on the pass went past these entries, whose numbers are above the least one, and stands behind them, with nothing
--- pending
+-- from the head on the pass went past these entries, whose numbers are above the least one, and stands after them, with
+-- nothing pending
 pub record HasGonePast (v : View) (at : Link) (least head : ℕ) (front : List ℕ) (entry : ℕ) : Type 0 where
   pub holds : HoldsEntry v at head
   pub walked : HasWalkedTo v at.node least head front entry

@@ -14,8 +14,8 @@ use Rattle.core_updates.specs.PlanEvents.{HoldsNumbered}
 use Rattle.core_updates.specs.Plans.{out_of}
 use Rattle.table_steps.specs.Raises.{HoldsNext, HoldsChain}
 
--- the pass has locked the node and found the head of the link's bundle, and stands at this entry of it, or behind the last
--- one
+-- the pass has locked the node and found the head of the link's bundle, and stands at this entry of it, or after the
+-- last one
 pub record StandsOn (v : View) (at : Link) (head entry : ℕ) : Type 0 where
   pub locked : IsLocked v at.node
   pub head_is : HoldsHead v at.node at.side head
@@ -23,7 +23,8 @@ pub record StandsOn (v : View) (at : Link) (head entry : ℕ) : Type 0 where
   pub place : v.reading.place ≡ AtEntry at.node at.side entry found
   pub there : entry ≤ v.layout.entries
 
--- these are the entries from the head on, each found as the next of the one before, and the next of the last one is this
+-- these are the entries from the head on, each found as the next of the one before, and the next of the last one is
+-- `entry`
 abbrev pub HoldsPart : View → ℕ → ℕ → List ℕ → ℕ → Type 0
 HoldsPart v node head [] entry = head ≡ entry
 HoldsPart v node head (e ∷ es) entry = (head ≡ e) × (0 < e) × ((next : ℕ) × HoldsNext v node e next × HoldsPart v node next es entry)

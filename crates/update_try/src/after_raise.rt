@@ -1,6 +1,6 @@
-//! What follows the raise of an update, beside the cuts. The entries get their numbers first, so that readers go on;
-//! then the bundles that the update changed are cut; then the nodes that went out are marked, and the plain links are
-//! set; and no lock is given back before that is done.
+//! What follows the raise of an update, apart from the cuts. The entries get their numbers first, so that readers go
+//! on; then the bundles that the update changed are cut; then the nodes that went out are marked, and the plain links
+//! are set. No lock is given back before all of this is done.
 ghost use Rattle.std.specs.Prelude.{◌≡◌, ℕ};
 ghost use Rattle.core_updates.specs.declared.plan.PlanSlots.{PlanSlots as UpdateSlots};
 ghost use Rattle.core_updates.specs.Plans.{sets_of};

@@ -1,16 +1,16 @@
 //! A try of an update: its plan is carried out, or given up.
 //!
 //! The order is that of the steps below. The nodes are locked one after another, each by one try, and looked at under
-//! their locks; a removal walks on to its successor with its first two locks held. Heads of bundles are loaded behind
+//! their locks; a removal walks on to its successor with its first two locks held. Heads of bundles are loaded after
 //! the last look, since the first load of one ends the search; then the slots are filled, and entries are put in front
-//! of bundles. Behind the raise the entries get their numbers before the bundles are cut and the nodes that went out
-//! are marked; then the plain links are set, and the tags of those that became null are raised, before the first
-//! unlock. The locks are given back on every way out, and the section is left.
+//! of bundles. After the raise the entries get their numbers before the bundles are cut and the nodes that went out are
+//! marked; then the plain links are set, and the tags of those that became null are raised, before the first unlock.
+//! The locks are given back on every way out, and the section is left.
 //!
-//! A removal with a far successor is the one update that waits for others behind its raise. By then all its entries
-//! have their numbers and its bundles are cut, its copy is linked, its section is left, and its announcement is taken
-//! back. So no reader waits for it, no other wait for sections, and no pass that cuts. What it keeps are the locks of
-//! the successor and of its parent. Who meets these gives up its try and leaves its section; so the wait ends, unless a
+//! A removal with a far successor is the one update that waits for others after its raise. By then all its entries have
+//! their numbers and its bundles are cut, its copy is linked, its section is left, and its announcement is taken back.
+//! So it blocks no reader, no other wait for sections, and no pass that cuts. It keeps the locks of the successor and
+//! of its parent. A pass that meets these locks gives up its try and leaves its section; so the wait ends, unless a
 //! pass stays in its section.
 ghost use Rattle.std.specs.Prelude.{◌≡◌, ◌+◌, ◌<◌, ℕ, length, IfOk, IfErr, Some, None};
 ghost use Rattle.core_updates.specs.PlanEvents.{HasSlots};
@@ -67,11 +67,11 @@ pub fn make_ready(pass: &mut TablePass<'_>, plan: &Plan, slots: &PlanSlots)
 pub struct Carried {
     /// Its place, and whether its key was there before.
     pub done: Done,
-    /// The successor that it has still to unlink, behind a wait. None where the update has ended.
+    /// The successor that it has still to unlink, after a wait. None if the update has ended.
     pub parted: Option<Parted>,
 }
 
-/// Ends an update without a far successor behind its numbers and its cuts: the marks and the plain links, then the
+/// Ends an update without a far successor, after its numbers and its cuts: the marks and the plain links, then the
 /// locks, and then the section.
 fn end_at_once(pass: &mut TablePass<'_>, plan: &Plan, slots: &PlanSlots)
     requires numbered { HasNumbered pass.old.view pass.old.number plan.now slots.now }
@@ -87,8 +87,8 @@ fn end_at_once(pass: &mut TablePass<'_>, plan: &Plan, slots: &PlanSlots)
     leave_section(pass);
 }
 
-/// Ends an update behind its raise: the numbers, then the cuts, and then all else. Where its successor is a far one its
-/// end comes behind a wait. `number` is the one at which the pass reads.
+/// Ends an update after its raise: the numbers, then the cuts, and then the rest. If its successor is a far one, its
+/// end comes after a wait. `number` is the one at which the pass reads.
 fn end_update(
     pass: &mut TablePass<'_>,
     number: u64,
@@ -124,9 +124,10 @@ fn was_there(plan: &Plan) -> bool
 }
 
 /// Carries out by one try what a search has found, in the section in which the pass reads at `number`. `Ok` has the
-/// place of the update, which has taken effect by a raise of this call. An error is the failure whose count has risen,
-/// for what another pass did; then nothing has changed, and what the pass owns is as before, and the pass is at rest.
-/// So it is where the update has ended; a removal with a far successor has still to wait, and to unlink it.
+/// place of the update, which has taken effect by a raise of this call. The pass is then at rest if the update has
+/// ended; a removal with a far successor has still to wait, and to unlink it. An error is the failure whose count has
+/// risen, for what another pass did; then nothing has changed, what the pass owns is as before, and the pass is at
+/// rest.
 pub fn carry_out(
     pass: &mut TablePass<'_>,
     number: u64,

@@ -1,9 +1,9 @@
 //! Old entries are cut without an update, so that a pass which owns too few for one gets them back.
 //!
-//! The pass locks what a search has found and looks at it, as a try of a put does. Then it cuts the bundles of the links
-//! there behind the entries that are still read, gives the locks back, and leaves its section. Nothing is filled and
-//! nothing is raised, so the map, the calls that are left and the free slots stay as they were. What was cut is retired:
-//! it becomes free once each other pass was outside of a section.
+//! The pass locks what a search has found and looks at it, as a try of a put does. Then it cuts the bundles of the
+//! links there after the entries that are still read, gives the locks back, and leaves its section. Nothing is filled
+//! and nothing is raised, so the map, the calls that are left and the free slots are unchanged. What was cut is
+//! retired: it becomes free once each other pass was outside of a section.
 ghost use Rattle.std.specs.Prelude.{◌≡◌, ℕ, List, Some};
 ghost use Rattle.core_updates.specs.Plans.{locks_of};
 ghost use Rattle.plan_laws.specs.Looks.{HasLookedAll, IsUnmarked};
@@ -56,8 +56,8 @@ fn cut_locked(pass: &mut TablePass<'_>, plan: &Plan, number: u64)
 }
 
 /// Cuts, by one try, the bundle of the link at which a search has ended, and those of the node that it has found. The
-/// aim is that of a put, of which nothing else is done; `number` is the one at which the pass reads. Where a lock is
-/// held, or what the search has found has changed, nothing is cut. It never waits, and the pass is at rest after it.
+/// aim is that of a put, of which nothing else is done; `number` is the one at which the pass reads. If a lock is held,
+/// or what the search has found has changed, nothing is cut. It never waits, and the pass is at rest after it.
 pub fn cut_found(pass: &mut TablePass<'_>, number: u64, aim: &Aim)
     requires aim { IsAim pass.old.view aim.now }
     requires section { pass.old.view.reading.section ≡ Some number }

@@ -30,7 +30,7 @@ fn fill_words(pass: &mut TablePass<'_>, fills: &[Filled])
     }
 }
 
-/// Fills the entry of a new node's link, where there is one.
+/// Fills the entry of a new node's link, if there is one.
 fn fill_fresh(pass: &mut TablePass<'_>, fresh: Option<Fresh>)
     requires inside { IsInside pass.old.view }
     requires free { Every (λ (f : Fill). MayFill pass.old.view f.word) (fresh_fills fresh) }
@@ -42,7 +42,7 @@ fn fill_fresh(pass: &mut TablePass<'_>, fresh: Option<Fresh>)
     }
 }
 
-/// Fills a new node, where there is one, and the entries of its links.
+/// Fills a new node, if there is one, and the entries of its links.
 fn fill_new(pass: &mut TablePass<'_>, node: Option<NewNode>)
     requires inside { IsInside pass.old.view }
     requires free { Every (λ (f : Fill). MayFill pass.old.view f.word) (new_fills_of node) }
@@ -57,7 +57,7 @@ fn fill_new(pass: &mut TablePass<'_>, node: Option<NewNode>)
     fill_fresh(pass, node.right);
 }
 
-/// Fills an entry that is to be put in front of a bundle, where there is one. `behind` is the entry behind it.
+/// Fills an entry that is to be put in front of a bundle, if there is one. `behind` is the entry after it.
 fn fill_front(pass: &mut TablePass<'_>, front: Option<Front>, behind: u32)
     requires inside { IsInside pass.old.view }
     requires free { Every (λ (f : Fill). MayFill pass.old.view f.word) (next_fills behind front) }
@@ -69,8 +69,8 @@ fn fill_front(pass: &mut TablePass<'_>, front: Option<Front>, behind: u32)
     }
 }
 
-/// Fills the free slots of which a plan takes its own: the new node first, then the entries in front of bundles. No
-/// other pass reads them yet.
+/// Fills the free slots that a plan takes: the new node first, then the entries in front of bundles. No other pass
+/// reads them yet.
 pub(crate) fn fill_all(pass: &mut TablePass<'_>, plan: &Plan, slots: &PlanSlots, heads: Heads)
     requires heads { HasHeads pass.old.view pass.old.number plan.now heads }
     requires free { HasSlots pass.old.view slots.now }

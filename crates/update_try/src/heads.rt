@@ -16,8 +16,8 @@ use core_updates::{Heads, Plan};
 use index_words::Side;
 use table_steps::TablePass;
 
-/// The newest entry of a bundle of a locked node, 0 for none. It has a number: while it has none, its pass holds the
-/// lock of the node.
+/// The newest entry of a bundle of a locked node, 0 for none. It has a number: as long as it has none, its pass holds
+/// the lock of the node.
 fn find_head(pass: &mut TablePass<'_>, at: Link) -> u32
     requires trying { (nodes : List ℕ) × IsTrying pass.old.view pass.old.number nodes }
     requires unmarked { IsUnmarked pass.old.view at.node }
@@ -67,8 +67,8 @@ fn find_fronts(pass: &mut TablePass<'_>, plan: &Plan) -> Heads
     Heads { at, next }
 }
 
-/// Finds all that a plan needs to know of bundles: what it retires with the nodes that go out, and what it puts its own
-/// entries in front of.
+/// Finds all that a plan needs to know of bundles: the entries that it retires with the nodes that go out, and the
+/// heads in front of which it puts its own entries.
 pub fn find_heads(pass: &mut TablePass<'_>, plan: &Plan) -> Heads
     requires looked { HasLookedAll pass.old.view pass.old.number plan.now }
     ensures same { IsSamePass pass.old pass.new }

@@ -1,5 +1,5 @@
 //! The try of an update on the running table: the steps that carry out what a search has found, or give it up; the laws
-//! of `plan_laws` lead from stage to stage. The layer above uses `plan_slots` and `carry_out`, and behind the wait of a
+//! of `plan_laws` lead from stage to stage. The layer above uses `plan_slots` and `carry_out`, and after the wait of a
 //! removal `unlink_successor`. The stages of a `carry_out` without a wait are public too, for callers that stop between
 //! them: `validate`, `make_ready`, `raise_plan`, `finalise_all`, `prune_all`, `mark_all`, `set_plain`, `raise_tag`,
 //! `unlock_all` and `leave_section`, in this order. `cut_found` is a try without an update: it cuts old entries where a

@@ -37,7 +37,7 @@ pub(crate) fn look_unmarked(pass: &mut TablePass<'_>, node: u32) -> Result<(), F
     Ok(())
 }
 
-/// Looks whether a link still leads to the child to which the search has found it to lead, 0 for none.
+/// Looks whether a link still leads to the child that the search has found there, 0 for none.
 pub(crate) fn look_leads(pass: &mut TablePass<'_>, at: Link, child: u32) -> Result<(), Failed>
     requires locked { IsLockedBy pass.old.view at.node }
     requires unmarked { IsUnmarked pass.old.view at.node }
@@ -61,7 +61,7 @@ pub(crate) fn look_leads(pass: &mut TablePass<'_>, at: Link, child: u32) -> Resu
     Ok(())
 }
 
-/// Looks whether a link is still null, and has not become null anew since the search has found it so.
+/// Looks whether a link is still null, and has not become null again since the search has found it null.
 pub(crate) fn look_at_gap(pass: &mut TablePass<'_>, gap: Gap) -> Result<(), Failed>
     requires locked { IsLockedBy pass.old.view gap.at.node }
     requires unmarked { IsUnmarked pass.old.view gap.at.node }

@@ -40,7 +40,7 @@ pub(crate) fn far_join(plan: &Plan) -> Option<JoinPlan>
     }
 }
 
-/// Ends the section of a removal with a far successor, behind the numbers and the cuts.
+/// Ends the section of a removal with a far successor, after the numbers and the cuts.
 pub(crate) fn part(pass: &mut TablePass<'_>, plan: &JoinPlan, slots: &PlanSlots) -> Parted
     requires numbered { HasNumbered pass.old.view pass.old.number (Join plan.now) slots.now }
     requires far { IsFar plan.now }
@@ -64,7 +64,7 @@ pub(crate) fn part(pass: &mut TablePass<'_>, plan: &JoinPlan, slots: &PlanSlots)
     Parted { plan: *plan, tag }
 }
 
-/// Raises the tag of the link to the successor, where unlinking it has made the link null.
+/// Raises the tag of the link to the successor, if unlinking it has made the link null.
 fn raise_far_tag(pass: &mut TablePass<'_>, parted: &Parted)
     requires null { parted.now.plan.next.right ≡ 0 → RaisesFarTag pass.old.view pass.old.number parted.now.plan parted.now.tag }
     requires some { ¬ (parted.now.plan.next.right ≡ 0) → IsGivingBack true pass.old.view pass.old.number (kept_locks parted.now.plan) }
@@ -79,7 +79,7 @@ fn raise_far_tag(pass: &mut TablePass<'_>, parted: &Parted)
     }
 }
 
-/// Unlinks the successor, behind the wait, and gives the last two locks back.
+/// Unlinks the successor, after the wait, and gives the last two locks back.
 pub fn unlink_successor(pass: &mut TablePass<'_>, parted: &Parted)
     requires parted { HasParted pass.old.view pass.old.number parted.now }
     requires passed { HasPassedAll pass.old.view }

@@ -1,6 +1,6 @@
-//! The plain link of an update without a far successor, behind its marks. The link comes first, and then its tag, where
-//! a removal has made it null. Both come before the first lock is given back: with the lock another update may change
-//! the link again.
+//! The plain link of an update without a far successor, after its marks. The link comes first, and then its tag, if a
+//! removal has made the link null. Both come before the first lock is given back: once the lock is free, another update
+//! may change the link again.
 ghost use Rattle.std.specs.Prelude.{◌≡◌, []};
 ghost use Rattle.core_updates.specs.Plans.{locks_of, sets_of};
 ghost use Rattle.plan_laws.specs.Frames.{KeepsOwned};
@@ -21,7 +21,7 @@ fn is_owed(plan: &Plan, front: &Front) -> bool
     }
 }
 
-/// Sets the plain link at which the tree has changed, to the child that it has since the raise.
+/// Sets the plain link at which the tree has changed, to the child that it has had since the raise.
 pub fn set_plain(pass: &mut TablePass<'_>, plan: &Plan, slots: &PlanSlots)
     requires near { SetsAtOnce plan.now }
     requires marked { IsSetting pass.old.view pass.old.number plan.now (sets_of plan.now slots.now) (sets_of plan.now slots.now) }
@@ -33,7 +33,7 @@ pub fn set_plain(pass: &mut TablePass<'_>, plan: &Plan, slots: &PlanSlots)
     pass.set_link(front.at.node, front.at.side, front.child);
 }
 
-/// Raises the tag of the link, where a removal has made it null. Then the locks may be given back.
+/// Raises the tag of the link, if a removal has made the link null. Then the locks may be given back.
 pub fn raise_tag(pass: &mut TablePass<'_>, plan: &Plan, slots: &PlanSlots)
     requires near { SetsAtOnce plan.now }
     requires set { IsSetting pass.old.view pass.old.number plan.now [] (sets_of plan.now slots.now) }

@@ -1,7 +1,8 @@
-//! How a try comes from its aim to a plan: it locks the nodes that the update needs, each by one try, and looks at what
+//! How a try gets from its aim to a plan: it locks the nodes that the update needs, each by one try, and looks at what
 //! the search has found there. What the search has not loaded is loaded under the locks.
 //!
-//! No head is loaded before the last of this: the load of a head ends a search, and the walk to a successor is one.
+//! No head is loaded before the last of these steps: the load of a head ends a search, and the walk to a successor is
+//! one.
 ghost use Rattle.std.specs.Prelude.{◌≡◌, ◌<◌, ◌≤◌, ◌++◌, ℕ, [], ◌∷◌, length, IfOk, IfErr};
 ghost use Rattle.index_words.specs.declared.side.Side.TheVariants.{Left, Right};
 ghost use Rattle.index_words.specs.declared.view.update.HeldNode.{HeldNode};
@@ -201,8 +202,8 @@ fn look_next(pass: &mut TablePass<'_>, found: &NextFound) -> Result<NextNode, Fa
     })
 }
 
-/// Locks the successor and its parent, but for the node that is to be removed, which is locked. Looks whether the
-/// successor still hangs there, and still has no left child.
+/// Locks the successor and its parent, unless the parent is the node that is to be removed, which is locked already.
+/// Looks whether the successor still hangs there, and still has no left child.
 fn hold_next(
     pass: &mut TablePass<'_>,
     locks: &mut Locks,
@@ -332,7 +333,7 @@ fn plan_aim(pass: &mut TablePass<'_>, locks: &mut Locks, aim: &Aim) -> Result<Pl
     }
 }
 
-/// The plan that carries the aim out, with its nodes locked, and found to be as the search has found them. Where that
+/// The plan that carries the aim out, with its nodes locked, and found to be as the search has found them. If that
 /// fails the locks are given back.
 pub fn validate(pass: &mut TablePass<'_>, aim: &Aim) -> Result<Plan, Failed>
     requires aim { IsAim pass.old.view aim.now }

@@ -1,8 +1,8 @@
-//! The bundles that an update changed are cut behind the entries that are still read.
+//! The bundles that an update changed are cut after the entries that are still read.
 //!
-//! Of a bundle no number that is read, now or later, selects an entry behind the first one whose number is at most the
-//! pass's least number. That is at first its own section number. Only where something hangs behind that entry the pass
-//! looks at what the others have announced, once for all bundles of the update.
+//! In a bundle no number that is read, now or later, selects an entry after the first one whose number is at most the
+//! pass's least number. That is at first its own section number. Only if something hangs after that entry does the pass
+//! look at what the others have announced, once for all bundles of the update.
 ghost use Rattle.std.specs.Prelude.{◌≡◌, ◌<◌, ◌≤◌, ℕ, IfSome, Some, is_some, true};
 ghost use Rattle.core_events.specs.Announcing.{smaller};
 ghost use Rattle.key_map.specs.Lists.{count};
@@ -15,19 +15,21 @@ use core_trees::Link;
 use core_updates::{Plan, PlanSlots};
 use table_steps::TablePass;
 
-/// How many entries a walk goes past, at most, before it leaves a bundle as it is, where the pass has free entries
-/// enough. Those are entries that a pass which has read for long may still need. What hangs behind the one that it
-/// reads was cut by the first updates after it began.
+/// The most entries that a walk goes past before it leaves a bundle as it is, if the pass has enough free entries: a
+/// pass that has read for long may still need them. Without this bound the n-th put of one key next to an open snapshot
+/// makes n loads: 100,000 updates took 10.5 s instead of 0.17 s. What hangs after the entry that the snapshot reads was
+/// cut by the first updates after it began.
 const PASSED: u32 = 64;
 
-/// With fewer free entries than these a pass walks along the whole bundle.
+/// With fewer free entries than these a pass walks along the whole bundle, so that snapshots that follow closely on
+/// each other cannot keep a bundle from being cut.
 const ENOUGH: usize = 16;
 
-/// The least number: what is behind the first entry of a bundle whose number is not above is read by nobody.
+/// The least number: nobody reads what is after the first entry of a bundle whose number is not above it.
 #[derive(Clone, Copy, Debug)]
 pub(crate) struct Least {
     pub number: u64,
-    /// Whether the announcements of the others were looked at for it.
+    /// Whether the pass has looked at the announcements of the others for it.
     pub looked: bool,
 }
 
@@ -39,7 +41,7 @@ pub(crate) struct Stop {
     pub next: u32,
 }
 
-/// The smaller one of a number and the announced one, of which `word` is what the announcement holds.
+/// The smaller of a number and the announced one; `word` is what the announcement holds.
 fn lower(number: u64, word: u64) -> u64
     ensures smaller { result ≡ smaller number word }
     ensures low { result ≤ number }
@@ -51,7 +53,7 @@ fn lower(number: u64, word: u64) -> u64
     }
 }
 
-/// Looks at what a pass has announced, where it is another one, and answers the least number then.
+/// Looks at what a pass has announced, if it is another one, and answers the least number then.
 fn look_at_other(pass: &mut TablePass<'_>, other: u32, number: u64) -> u64
     requires reads { is_some pass.old.view.reading.section ≡ true }
     requires least { pass.old.view.reading.least ≡ Some number }
@@ -89,8 +91,8 @@ fn look_at_others(pass: &mut TablePass<'_>, own: u64) -> Least
     }
 }
 
-/// Loads the number and the next of the entry at which the pass stands in a bundle of a locked node. It has a number:
-/// an entry without one is pending, and the pass that has put it there holds the lock of the node.
+/// Loads the number and the next of the entry at which the pass stands in a bundle of a locked node. The entry has a
+/// number: one without a number is pending, and the pass that has put it there holds the lock of the node.
 fn load_entry(pass: &mut TablePass<'_>, at: Link, entry: u32) -> Stop
     requires past { (least : ℕ) × GoesPast pass.old.view at least entry }
     requires some { 0 < entry }
@@ -109,7 +111,7 @@ fn load_entry(pass: &mut TablePass<'_>, at: Link, entry: u32) -> Stop
     }
 }
 
-/// How many entries a walk goes past, at most.
+/// The most entries that a walk goes past.
 fn longest_walk(pass: &TablePass<'_>) -> u32 {
     if pass.free_entries() < ENOUGH {
         u32::MAX
@@ -118,8 +120,8 @@ fn longest_walk(pass: &TablePass<'_>) -> u32 {
     }
 }
 
-/// Goes on along a bundle to the first entry whose number is not above the least one. `None` where nothing hangs behind
-/// it, and where there is none among the next ones.
+/// Goes on along a bundle to the first entry whose number is not above the least one. `None` if nothing hangs after it,
+/// or if there is none among the next ones.
 fn go_past(pass: &mut TablePass<'_>, at: Link, least: u64, first: u32) -> Option<Stop>
     requires past { GoesPast pass.old.view at least first }
     ensures same { IsSamePass pass.old pass.new }
@@ -146,7 +148,7 @@ fn go_past(pass: &mut TablePass<'_>, at: Link, least: u64, first: u32) -> Option
     None
 }
 
-/// Cuts a bundle behind the entry at which a walk has stopped.
+/// Cuts a bundle after the entry at which a walk has stopped.
 fn cut_behind(pass: &mut TablePass<'_>, at: Link, least: Least, stop: Stop)
     requires stays { count at.node pass.old.view.update.taken ≡ 0 }
     requires least { IsLeast pass.old.view least }
@@ -161,7 +163,7 @@ fn cut_behind(pass: &mut TablePass<'_>, at: Link, least: Least, stop: Stop)
     pass.cut(stop.entry);
 }
 
-/// The least number for which the pass has looked at all others. It looks at them once.
+/// The least number for which the pass has looked at all others. It looks at them only once.
 fn least_of_all(pass: &mut TablePass<'_>, own: Least) -> Least
     requires least { IsLeast pass.old.view own }
     ensures same { IsSamePass pass.old pass.new }
@@ -177,8 +179,8 @@ fn least_of_all(pass: &mut TablePass<'_>, own: Least) -> Least
     look_at_others(pass, own.number)
 }
 
-/// Cuts a bundle behind the entry at which a walk has stopped, where its number is not above the least one, and else
-/// behind a later one.
+/// Cuts a bundle after the entry at which a walk has stopped, if its number is not above the least one, and else after
+/// a later one.
 fn cut_from(pass: &mut TablePass<'_>, at: Link, least: Least, stop: Stop)
     requires stays { count at.node pass.old.view.update.taken ≡ 0 }
     requires least { IsLeast pass.old.view least }
@@ -198,8 +200,8 @@ fn cut_from(pass: &mut TablePass<'_>, at: Link, least: Least, stop: Stop)
     cut_behind(pass, at, least, later);
 }
 
-/// Cuts the bundle of a link that the update changed, where something hangs behind what is read. Answers the least
-/// number, for which the pass may have looked at the others here.
+/// Cuts the bundle of a link that the update changed, if something hangs after what is read. Answers the least number,
+/// for which the pass may have looked at the others here.
 pub(crate) fn prune_link(pass: &mut TablePass<'_>, at: Link, own: Least) -> Least
     requires changed { IsChanged pass.old.view at }
     requires least { IsLeast pass.old.view own }

@@ -21,7 +21,7 @@ fn entry_of(fresh: Option<Fresh>) -> u32
     }
 }
 
-/// The slot of a new node and the entries of its left and its right link, 0 for each that there is not.
+/// The slot of a new node and the entries of its left and its right link; 0 stands for none.
 fn new_slots(node: Option<NewNode>) -> [u32; 3]
     ensures { result ≡ new_slots_of node }
 {
@@ -31,7 +31,7 @@ fn new_slots(node: Option<NewNode>) -> [u32; 3]
     }
 }
 
-/// The nodes that a plan takes out, 0 for each that there is not.
+/// The nodes that a plan takes out; 0 stands for none.
 fn out_slots(plan: &Plan) -> [u32; 2]
     ensures { result ≡ out_slots_of plan.now }
 {
@@ -51,8 +51,8 @@ fn key_of(plan: &Plan) -> u64
     plan.key()
 }
 
-/// Raises the update of a plan, with all its entries in front of their bundles, and answers its place. Of each node
-/// that goes out the pass has found both bundles since it locked it.
+/// Raises the update of a plan, with all its entries in front of their bundles, and answers its place. The pass has
+/// found both bundles of each node that goes out since it locked the node.
 pub fn raise_plan(pass: &mut TablePass<'_>, line: u32, plan: &Plan, slots: &PlanSlots) -> u64
     requires prepared { IsPrepared pass.old.view pass.old.number plan.now slots.now }
     requires apart { AreApart slots.now }

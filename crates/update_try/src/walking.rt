@@ -1,4 +1,4 @@
-//! The entries of a bundle of a locked node that a raise or a cut retires. The pass has to find each.
+//! The entries of a bundle of a locked node that a raise or a cut retires. The pass has to find each of them.
 ghost use Rattle.std.specs.Prelude.{◌≡◌, ℕ, List};
 ghost use Rattle.plan_laws.specs.Frames.{KeepsTry};
 ghost use Rattle.plan_laws.specs.Looks.{KeepsLooks};

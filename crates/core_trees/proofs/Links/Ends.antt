@@ -1,4 +1,4 @@
--- Where a search ends, told by links: the search for the key of a linked node ends at its link, a search for a key
+-- Where a search ends, in terms of links: the search for the key of a linked node ends at its link, a search for a key
 -- within the bounds of a subtree goes through it, and the first node of a tree.
 use Rattle.std.proofs.Common.{◌≡◌, ℕ, ◌+◌, ◌<◌, ◌≤◌, ◌⊎◌, inl, inr, [], ◌∷◌, refl, ap, sym, ◌∙◌, subst, arith}
 use Rattle.index_words.specs.declared.side.Side.{Side}
@@ -208,7 +208,7 @@ first_is low high s k v (Branch t c d l' r') r within =
           (end_node-left x s k v (Branch t c d l' r') r root low' ∙ below.0, end_side-left x s k v (Branch t c d l' r') r top low' ∙ below.1);
     }
 
--- where all is clear up to a key, no node has a key there
+-- if all is clear up to a key, no node has a key there
 pub clear_node : (side : Side) (key z x s k v : ℕ) (l r tree : NamedTree) → IsClear side key z tree → subtree_at x tree ≡ Branch s k v l r → ¬ IsBetween side key z x
 clear_node side key z x s k v l r Null clear sub = absurd (not_null s k v l r sub)
   where

@@ -113,7 +113,7 @@ module _ (g g' : Graph) (root slot parent node below next : ℕ) (top side turn 
     next_spelled : IsSpelled g (g.child Right next) (behind_first rest)
     next_spelled = (subst (IsSpelled g (end_child g (g.key next) node Right rest)) first_is_next.found (subtree_law g node (g.key next) Right rest spelled_rest)).5
 
-    -- what is behind the next node has none of the changed links
+    -- what hangs below the next node has none of the changed links
     in_found : (x : ℕ) → 0 < occurs x (behind_first rest) → 0 < occurs x (subtree_at (g.key next) rest)
     in_found x there = subst (λ t. 0 < occurs x t) (sym first_is_next.found) (omega (arith, there))
 

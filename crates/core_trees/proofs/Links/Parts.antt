@@ -1,4 +1,4 @@
--- What a link of a spelled tree tells: where the search ends, what is below the node, and what stays outside.
+-- What a link of a spelled tree shows: where the search ends, what is below the node, and what stays outside.
 use Rattle.std.proofs.Common.{◌≡◌, ℕ, ◌^◌, ◌<◌, ◌⊎◌, inl, inr, refl, ap, sym, ◌∙◌, subst, arith}
 use Rattle.index_words.specs.declared.side.Side.{Side}
 use Rattle.index_words.specs.declared.side.Side.TheVariants.{Left, Right}
@@ -34,7 +34,7 @@ end_outside key root (Branch s k v l r) once =
           (subst (λ t. occurs root t ≡ 0) (sym (subtree_at-here key s k v l r e)) (omega (arith, once root, one_at-same root)))
     ]
 
--- what stays outside of a subtree, where the only changed link there is the one at which the search ends
+-- what stays outside of a subtree, if the only changed link there is the one at which the search ends
 pub keeps_outside : (g g' : Graph) (changed : ℕ → Side → Type 0) (key root : ℕ) (top : Side) (tree : NamedTree) → NamesOnce root tree → KeepsLinks g g' changed root tree
     → ((x : ℕ) → IsOutside key root tree x → (w : Side) → changed x w → IsLink (end_node key root tree) (end_side key top tree) x w)
     → KeepsOutside g g' key root top tree
@@ -51,7 +51,7 @@ keeps_outside g g' changed key root top tree once keeps only =
       other = λ w apart. keeps.children here (inside here out_end) w (λ is. apart (only here out_end w is).1);
     }
 
--- the nodes of a part of a tree stay, where none of their links is changed
+-- the nodes of a part of a tree stay, if none of their links is changed
 pub same_in : (g g' : Graph) (changed : ℕ → Side → Type 0) (root : ℕ) (tree part : NamedTree) → KeepsLinks g g' changed root tree
     → ((x : ℕ) → 0 < occurs x part → 0 < occurs x tree) → ((x : ℕ) → 0 < occurs x part → (w : Side) → ¬ changed x w) → SameIn g g' part
 same_in g g' changed root tree part keeps inside apart x is = record {
@@ -86,7 +86,7 @@ gap_ends key node low high root side top (Branch s k v l r) within gap = (
   ],
 )
 
--- what is known where a link leads to a node
+-- what is known if a link leads to a node
 module _ (g : Graph) (root parent node : ℕ) (top side : Side) (tree : NamedTree) (at : IsTreeAt g root top tree) (leads : IsChildLink g root top tree parent side node) where
   abbrev key : ℕ
   key = g.key node
@@ -117,7 +117,7 @@ module _ (g : Graph) (root parent node : ℕ) (top side : Side) (tree : NamedTre
   pub in_right : (x : ℕ) → 0 < occurs x at_link.right → 0 < occurs x (subtree_at key tree)
   in_right x is = subst (λ t. 0 < occurs x t) (sym at_link.sub) (omega (arith, is))
 
-  -- where only that link is changed
+  -- if only that link is changed
   module _ (g' : Graph) (keeps : KeepsLinks g g' (IsLink parent side) root tree) where
     pub outside : KeepsOutside g g' key root top tree
     outside = keeps_outside g g' (IsLink parent side) key root top tree at.once keeps (λ x out w is. (is.0 ∙ sym at_link.ends.0, is.1 ∙ sym at_link.ends.1))
@@ -130,7 +130,7 @@ pub no_child : (g : Graph) (c : ℕ) (tree : NamedTree) → IsSpelled g c tree �
 no_child g c Null spelled none = refl
 no_child g c (Branch s k v l r) spelled none = absurd (omega (arith, spelled.0, spelled.1, none))
 
--- the pair of a node, named otherwise
+-- the pair of a node, under other names
 pub node_as : (g : Graph) (slot k v k' v' l r : ℕ) → k ≡ k' → v ≡ v' → IsNodeOf g slot k v l r → IsNodeOf g slot k' v' l r
 node_as g slot k v k' v' l r keys vals is = record { taken = is.taken; key = is.key ∙ keys; val = is.val ∙ vals; left = is.left; right = is.right }
 

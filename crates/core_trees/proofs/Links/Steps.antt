@@ -1,4 +1,4 @@
--- The tree step by links, where at most one child is left: puts, and the removal of a node with at most one child.
+-- The tree step by links, if at most one child is left: puts, and the removal of a node with at most one child.
 use Rattle.std.proofs.Common.{◌≡◌, ◌^◌, inl, inr, ap, sym, ◌∙◌}
 use Rattle.index_words.specs.declared.side.Side.TheVariants.{Left, Right}
 use Rattle.core_trees.specs.NamedTree.{Null, Branch}

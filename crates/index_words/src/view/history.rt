@@ -1,3 +1,4 @@
+// What a view knows of the history.
 use key_map::{Items, Update};
 use std::alloc::Global;
 
@@ -19,7 +20,7 @@ pub struct SeenHistory {
     pub told: Items<Update>,
     /// The places of its own updates, counted from 1 and rising.
     pub mine: Items<u64>,
-    /// The numbers of the views that were joined into this one, also by way of others.
+    /// The numbers of the views that were joined into this one, directly or through others.
     pub ended: Items<u32>,
     /// The places of their updates.
     pub ended_places: Items<EndedPlace>,
@@ -31,7 +32,7 @@ pub struct SeenHistory {
     pub looks: u64,
 }
 
-/// How often a step met what another seat had done.
+/// How often a step found what another seat had done.
 #[derive(Clone, Copy, Debug, PartialEq, Eq)]
 pub struct Counts {
     /// A lock word named another pass.

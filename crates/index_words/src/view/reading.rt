@@ -1,3 +1,4 @@
+// What a seat has read in its section.
 use crate::side::Side;
 use crate::word::Word;
 use key_map::Items;
@@ -19,16 +20,16 @@ pub struct TreeNode {
 pub enum Place {
     /// Nowhere yet. A search on plain links begins at the root.
     Nowhere,
-    /// At an entry of a bundle, as a word was found to name it, with the stamp word where it was loaded. 0 is
-    /// behind the last entry.
+    /// At an entry of a bundle, as a word was found to name it, with the stamp word if it was loaded. 0 is after the
+    /// last entry.
     Entry {
         node: u32,
         side: Side,
         entry: u64,
         stamp: Option<u64>,
     },
-    /// At a node that a search on plain links has come to, as a word was found to name it, with its key where
-    /// that was loaded.
+    /// At a node that a search on plain links has reached, as a word was found to name it, with its key if that was
+    /// loaded.
     Node {
         node: u64,
         key: Option<u64>,
@@ -43,12 +44,12 @@ pub enum Place {
 /// How a link was found.
 #[derive(Clone, Copy, Debug, PartialEq, Eq)]
 pub enum LinkSource {
-    /// Through the link's bundle: the entry that selected it, 0 where none did.
+    /// Through the link's bundle: the entry that selected it, 0 if none did.
     Bundle {
         entry: u64,
     },
-    /// As a plain link: its tag where that was loaded, and the keys of the two turns: `above` that of the left
-    /// turn and `below` that of the right turn.
+    /// As a plain link: its tag if that was loaded, and the keys of the two turns: `above` that of the left turn and
+    /// `below` that of the right turn.
     Plain {
         tag: Option<u64>,
         above: Option<u64>,
@@ -84,20 +85,20 @@ pub struct Filled {
 /// What a seat has read in its section.
 #[derive(Drop)]
 pub struct Reading {
-    /// The number at which it reads bundles, where it has one.
+    /// The number at which it reads bundles, if it has one.
     pub section: Option<u64>,
-    /// The number of the open snapshot, where there is one.
+    /// The number of the open snapshot, if there is one.
     pub opened: Option<u64>,
     /// The tree at the section number, in the order of the keys. Empty without a section number.
     pub tree: Items<TreeNode>,
     pub place: Place,
-    /// The number of the entry that it has just left behind on its way along a bundle, where that was loaded.
+    /// The number of the entry that it has just left on its way along a bundle, if that was loaded.
     pub above: Option<u64>,
     pub links: Items<Link>,
     /// The node at which the search last turned left, and the one at which it last turned right.
     pub left_turn: Option<Turn>,
     pub right_turn: Option<Turn>,
-    /// The least number that a pruner has found announced, its own section number among them.
+    /// The least number that a pruner has found announced; its own section number counts too.
     pub least: Option<u64>,
     /// The passes at whose announcements it has looked.
     pub looked: Items<u32>,

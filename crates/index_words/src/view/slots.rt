@@ -1,3 +1,4 @@
+// The slots of a view, and what it has found in other passes' sections.
 use key_map::{Items, NoMemory};
 use std::alloc::Global;
 
@@ -16,10 +17,11 @@ pub struct SectionFound {
     pub word: u64,
 }
 
-/// What the looks at other passes' sections have shown since a wait began.
+/// What was found in other passes' sections since a wait began.
 #[derive(Drop)]
 pub struct Looks {
-    /// The odd words that were found of passes that were not passed yet, one for each look, in the order of the looks.
+    /// The odd words that were found of passes that had not been passed yet, one for each look, in the order of the
+    /// looks.
     pub found: Items<SectionFound>,
     /// The passes that have been outside a section since the wait began.
     pub passed: Items<u32>,
@@ -46,7 +48,7 @@ impl Slots {
         self.nodes.is_empty() && self.entries.is_empty()
     }
 
-    /// Adds the slots of another list behind these. After a refusal they are unchanged.
+    /// Appends the slots of another list to these. If memory is refused they are unchanged.
     pub fn append(&mut self, other: &Slots) -> Result<(), NoMemory>
         ensures ok { OnOk result (self.new ≡ record { nodes = self.old.nodes ++ other.now.nodes; entries = self.old.entries ++ other.now.entries }) }
         ensures err { OnErr result (self.new ≡ self.old) }
@@ -60,7 +62,7 @@ impl Slots {
         Ok(())
     }
 
-    /// The slots of one list and then those of another.
+    /// The slots of one list followed by those of another.
     pub fn concat(alloc: Global, first: &Slots, second: &Slots) -> Result<Slots, NoMemory>
         ensures { IfOk result (λ c. c ≡ record { nodes = first.now.nodes ++ second.now.nodes; entries = first.now.entries ++ second.now.entries }) }
     {

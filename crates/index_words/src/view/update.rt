@@ -1,3 +1,4 @@
+// What a seat has locked, and the update that it is making.
 use crate::side::Side;
 use crate::view::slots::Looks;
 use key_map::Items;
@@ -7,7 +8,7 @@ use std::alloc::Global;
 #[derive(Clone, Copy, Debug, PartialEq, Eq)]
 pub struct LoadedHead {
     pub entry: u64,
-    /// The entry's stamp word where it was loaded.
+    /// The entry's stamp word if it was loaded.
     pub stamp: Option<u64>,
 }
 
@@ -36,7 +37,7 @@ pub struct HeldNode {
 pub struct HeldNext {
     pub node: u32,
     pub entry: u32,
-    /// The entry's stamp word where it was loaded.
+    /// The entry's stamp word if it was loaded.
     pub stamp: Option<u64>,
     pub next: u64,
 }
@@ -48,7 +49,7 @@ pub struct Held {
     pub nexts: Items<HeldNext>,
 }
 
-/// A plain link that an update has still to set: what it holds until then, and the child that it is to have.
+/// A plain link that an update still has to set: what it holds until then, and the child that it is to have.
 #[derive(Clone, Copy, Debug, PartialEq, Eq)]
 pub struct UnsetLink {
     pub node: u32,
@@ -57,14 +58,14 @@ pub struct UnsetLink {
     pub child: u64,
 }
 
-/// A link whose tag an update has still to raise.
+/// A link whose tag an update still has to raise.
 #[derive(Clone, Copy, Debug, PartialEq, Eq)]
 pub struct OwedTag {
     pub node: u32,
     pub side: Side,
 }
 
-/// A successor that a removal has still to unlink, the link to it, and the node that its copy replaced.
+/// A successor that a removal still has to unlink, the link to it, and the node that its copy replaced.
 #[derive(Clone, Copy, Debug, PartialEq, Eq)]
 pub struct Unlinking {
     pub successor: u32,
@@ -76,7 +77,7 @@ pub struct Unlinking {
 /// The update that a seat is making.
 #[derive(Drop)]
 pub struct Updating {
-    /// The place of the update, from its raise until its last lock is given back.
+    /// The place of the update, from its raise until its last lock is released.
     pub raised: Option<u64>,
     /// The node that the raise brought in.
     pub added: Option<u32>,
@@ -84,13 +85,13 @@ pub struct Updating {
     pub taken: Items<u32>,
     /// Its entries without a written number.
     pub pending: Items<u32>,
-    /// The plain links that it has still to set.
+    /// The plain links that it still has to set.
     pub unset: Items<UnsetLink>,
-    /// The links whose tags it has still to raise.
+    /// The links whose tags it still has to raise.
     pub owed: Items<OwedTag>,
     /// The successor that waits to be unlinked.
     pub unlinking: Option<Unlinking>,
-    /// What its looks have shown since the copy was linked.
+    /// What was found in other sections since the copy was linked.
     pub waiting: Looks,
 }
 

@@ -5,7 +5,7 @@ use Rattle.slot_depot.specs.declared.book.Book.{Book}
 use Rattle.slot_depot.specs.Depots.{IsSameSeat}
 use Rattle.client_run.proofs.pool.hand_over.Given as goal
 
--- what the pass has given so far stands in the book, and no look has found the depot full yet
+-- what the pass has given so far is in the book, and no look has found the depot full yet
 pub record GivesAway (own : ℕ) (old new : PassView) (book after : Book) : Type 0 where
   pub traded : Traded old new
   pub kept : (new.nodes ≡ old.nodes) ⊎ (own ≤ new.nodes)

@@ -12,7 +12,7 @@ use Rattle.text_laws.proofs.ReplyPlaces.{first_more}
 use Rattle.replay_check.proofs.beginning.starts.Goals as goal
 use Rattle.replay_check.proofs.beginning.starts.Goals.{After-len-first}
 
--- one client more
+-- one more client
 pushed : (xs : List Client) (x : Client) (k : ℕ) (y : Client) → slice_get (xs ++ x ∷ []) k ≡ Some y → (slice_get xs k ≡ Some y) ⊎ ((k ≡ length xs) × (x ≡ y))
 pushed [] x zero y is = inr (refl, same_Some x y is)
 pushed [] x (suc k) y is = absurd (none-some y is)

@@ -7,7 +7,7 @@ use Rattle.client_threads.specs.Pools.{named}
 use Rattle.serve_session.proofs.Sessions.{run_holds, none_holds}
 use Rattle.serve_session.proofs.running.run_session.Goals as goal
 
--- whether the session has no clients is told once its names are taken out
+-- whether the session has no clients is known once its names are taken out
 no_clients : (session taken : Session) (empty : Bool) → taken ≡ record session { names = [] } → empty ≡ (length taken.clients == 0) → (length session.clients == 0) ≡ empty
 no_clients session taken empty is by = ap (λ (s : Session). length s.clients == 0) (sym is) ∙ sym by
 

@@ -7,7 +7,7 @@ use Rattle.client_threads.specs.Pools.{named}
 use Rattle.serve_session.proofs.Forms.{one_number, input_named, check_named, run_found, pool_found, check_found, found_form, found_none, no_form}
 use Rattle.serve_session.proofs.serving.serve.Goals as goal
 
--- the slots that were found are those that the words name
+-- the slots that were found are those that the arguments name
 pub returns-in-Ok-Some-Run-clause-headline : goal.returns-in-Ok-Some-Run-clause-headline
 returns-in-Ok-Some-Run-clause-headline g c = λ slots is done.
     input_named c.args.words.now (named c.of_named-slots.result) slots _ _ _

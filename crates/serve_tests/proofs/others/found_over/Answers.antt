@@ -25,7 +25,7 @@ only P [] part one is holds = absurd (omega (arith, one))
 only P (p ∷ []) part one is holds = All-cons P p [] (subst P is holds) (All-nil P)
 only P (p ∷ q ∷ ps) part one is holds = absurd (omega (arith, one))
 
--- a fresh key of a pass with calls enough is the one that a run of one client wants
+-- a fresh key of a pass with enough calls is the one that a run of one client wants
 can_run_one : (dir : List (List ℕ)) (session : Session) (part : ClientPart) (index : Home) (key : Pass) (size : PassSize) → CanServe dir session → IsKeyOf index key → shown key ≡ fresh 0 size
     → length session.clients ≡ 1 → part ≡ get_or session.clients 0 part → updates_in (request_lines part) ≤ size.calls → CanRunEach dir index (parts_of session.clients) (key ∷ [])
 can_run_one dir session part index key size can of fresh_is one is few = record {

@@ -6,7 +6,7 @@ use Rattle.index_words.specs.declared.view.View.{View}
 use Rattle.core_events.specs.Tables.{Table}
 use Rattle.core_rule.proofs.state.State.view.Goals as goal
 
--- what `get` finds in a list is the value there, or none behind its end
+-- what `get` finds in a list is the value there, or none past its end
 found : (o : Option (Bor View)) (vs : List View) (i : ℕ) (P : Bor View → Type 0) → IfSome o (λ v. v.now ≡ get_or vs i v.now) → MatchOption o (length vs ≤ i) (λ v. (i < length vs) × P v)
     → option_copied o ≡ slice_get vs i
 found None vs i P value at = sym (slice_get_past vs i at)
