@@ -22,8 +22,7 @@ pub record Answered : Type 0 where
   pub asked : RequestLine
   pub placed : Placed
 
--- what a client's requests are answered in: the names, the history of updates, the client's number, and
--- how many node slots it has
+-- what a client is answered in: the names, the history of updates, its number, and how many node slots it has
 pub record Setting : Type 0 where
   pub dir : List (List ℕ)
   pub updates : List Update
@@ -32,8 +31,8 @@ pub record Setting : Type 0 where
 
 -- ---- resolved requests
 
--- the point from which a listing goes on: none without a token, or that of the token whose text it is. A token without a
--- bound fits each listing, and one with a bound a listing with this prefix and delimiter.
+-- the point from which a listing goes on: none without a token, or that of the token whose text it is; a token with a
+-- bound fits only a listing of that prefix and delimiter, and one without a bound fits each
 abbrev pub IsPointOf : ListQuery → Option TokenPoint → Type 0
 IsPointOf query None = query.token ≡ []
 IsPointOf query (Some point) =
@@ -44,8 +43,7 @@ pub record Resumed : Type 0 where
   pub query : ListQuery
   pub point : TokenPoint
 
--- what NEXT goes on from: the page of the client's last LIST or NEXT, where there is one and it was truncated. LISTV1
--- lines between are passed over.
+-- where NEXT goes on: after the page of the client's last LIST or NEXT, if that was truncated; LISTV1 is passed over
 abbrev pub next_of : List (List ℕ) → Option Reply → Option Resumed
 next_of dir (Some (Listed query page)) =
     option_map (λ point. record { query = record query { token = next_token query point }; point = point }) (page_point dir page)

@@ -32,8 +32,7 @@ first_end delimiter at [] = None
 first_end delimiter at (b ∷ bs) =
     if begins_with (b ∷ bs) delimiter then Some (at + length delimiter) else first_end delimiter (at + 1) bs
 
--- the length of the common prefix into which the name is rolled up: it ends with the first delimiter
--- at or after the prefix's length
+-- the length of the common prefix of a name: it ends with the first delimiter at or after the prefix's length
 unfoldable pub group_len : ListQuery → List ℕ → Option ℕ
 group_len query name =
     if length query.delimiter == 0 then None
@@ -57,8 +56,7 @@ unfoldable pub entries_of : List (List ℕ) → ListQuery → Option TokenPoint 
 entries_of dir query point m =
     dedup (is_same_group dir) (map (entry_of dir query) (filter (is_under dir query) (filter (λ p. is_admitted query point (name_at dir p.key)) m)))
 
--- the page of a query on a map, from a point on: the first `max_keys` of the entries; truncated where it may have some
--- and more are left
+-- the page of a query on a map, from a point on: the first `max_keys` entries; truncated if some fit and more are left
 abbrev pub page_of : List (List ℕ) → ListQuery → Option TokenPoint → List Pair → Page
 page_of dir query point m = record {
   entries = take query.max_keys (entries_of dir query point m);

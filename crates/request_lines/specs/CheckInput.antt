@@ -23,15 +23,14 @@ strip_line_feed line = if slice_index line (length line - 1) == 10 then take (le
 abbrev pub is_divider : List ℕ → Bool
 is_divider line = bytes_eq (strip_carriage_return (strip_line_feed line)) (codes "----")
 
--- the session stands in the lines before the first line `----`, or in all where there is none; and the text in those after it
+-- the session is in the lines before the first line `----`, or in all if there is none; the text is in those after it
 unfoldable pub session_part : List ℕ → List ℕ
 session_part input = concat (before_first is_divider (text_lines input))
 
 unfoldable pub text_part : List ℕ → Option (List ℕ)
 text_part input = if list_any is_divider (text_lines input) then Some (concat (after_first is_divider (text_lines input))) else None
 
--- the refusal of an input of `check`: that of its session, or else that the line `----` is missing, which is reported at
--- the line after the last one
+-- the refusal of an input of `check`: that of its session, or else, one line after the last, that no line is `----`
 unfoldable pub check_refusal : List ℕ → Option InputError
 check_refusal input =
     option_or (refusal_of (session_part input))

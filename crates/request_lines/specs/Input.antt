@@ -93,8 +93,7 @@ limit_cause commands last =
 
 -- ---- the lines of an input
 
--- a line that is not empty: its number, counted from 1 over all lines, what it says or its own cause, and
--- what the lines before it say
+-- a line that is not empty: its number from 1 over all lines, what it says or its own cause, and what was said before
 pub record Line : Type 0 where
   pub number : ℕ
   pub reading : Result Command Cause
@@ -158,8 +157,7 @@ record_by reading = None
 abbrev pub asked_of : Line → Option Asked
 asked_of line = option_map (λ request. record { line = line.number; request = request }) (request_by line.before line.reading)
 
--- the session is that of the input: its lines are cut at each line that begins a client, and no client has the lines
--- before the first of these
+-- the session is that of the input: each CLIENT line begins a client, which has the lines up to the next one
 pub record IsSessionOf (bytes : List ℕ) (session : Session) : Type 0 where
   pub faultless : refusal_of bytes ≡ None
   pub clients : session.clients

@@ -34,8 +34,7 @@ parameters_read (piece ∷ pieces) =
 abbrev pub is_one_of : List ℕ → List (List ℕ) → Bool
 is_one_of text texts = list_any (bytes_eq text) texts
 
--- the names of the parameters that a query of a version takes: one of version 2 on a LIST line, one of version 1 on a
--- LISTV1 line
+-- the names of the parameters that a version takes: version 1 is that of a LISTV1 line, version 2 that of a LIST line
 abbrev pub known : Version → List (List ℕ)
 known V1 = codes "prefix" ∷ codes "delimiter" ∷ codes "max-keys" ∷ codes "encoding-type" ∷ codes "marker" ∷ []
 known V2 = codes "prefix" ∷ codes "delimiter" ∷ codes "max-keys" ∷ codes "encoding-type" ∷ codes "start-after" ∷ codes "continuation-token" ∷ codes "list-type" ∷ codes "fetch-owner" ∷ []
@@ -101,8 +100,7 @@ listing_said V2 ps = ListRequest (record {
   url = bytes_eq (value_of (codes "encoding-type") ps) (codes "url");
 })
 
--- a query, which may begin with one `?` and is cut at each `&`: the listing that it asks for, or the first cause that its
--- parameters have
+-- a query, after one `?` or none, cut at each `&`: the listing that it asks for, or the first cause of its parameters
 unfoldable pub without_mark : List ℕ → List ℕ
 without_mark [] = []
 without_mark (b ∷ bytes) = if b == 63 then bytes else b ∷ bytes

@@ -83,8 +83,7 @@ pub record AreRight (checked : Checked) (texts : List (List ℕ)) (count : ℕ) 
   pub replied : (client : ℕ) → client < length checked.parts
       → FirstReplies checked updates texts client (count - length (journal_texts checked texts) - 1 - first_reply checked client)
 
--- the number, from 1, of the line that is looked at after `count` others: one of the journal, the last one, or a reply
--- line
+-- the number, from 1, of the line that is looked at after `count` others: in the journal, the last one, or a reply
 abbrev pub looked_at : Checked → List (List ℕ) → ℕ → ℕ
 looked_at checked texts count =
     if nat_lt count (length (journal_texts checked texts)) then requests_of checked.parts + count + 1
