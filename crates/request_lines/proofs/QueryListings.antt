@@ -6,11 +6,9 @@ use Rattle.std.specs.Prelude.{◌==◌}
 use Rattle.request_lines.specs.declared.cause.Cause.{Cause}
 use Rattle.request_lines.specs.declared.parameter.Version.{Version}
 use Rattle.request_lines.specs.declared.parameter.Version.TheVariants.{V1, V2}
-use Rattle.request_lines.specs.declared.verb.Verb.TheVariants as verbs
 use Rattle.request_lines.specs.Texts.{◌>>=◌, is_number}
 use Rattle.request_lines.specs.Queries.{Parameter, listing_said, listing_read, parameters_read, parameter_causes, have, without_mark, is_max_keys}
 use Rattle.request_lines.specs.QueryValues.{values_said, no_values, listing_of, query_read}
-use Rattle.request_lines.specs.Input.{read_fields}
 use Rattle.request_lines.specs.InputParts.{list_read}
 
 said_same : (version : Version) (ps : List Parameter) → listing_said version ps ≡ listing_of version (values_said ps)
@@ -38,12 +36,3 @@ pub no_query : (version : Version) → listing_read version [] ≡ Ok (listing_o
 unfolding listing_read parameters_read without_mark is_max_keys is_number
 no_query V1 = refl
 no_query V2 = refl
-
--- the two forms of a listing line
-pub fields_none : (version : Version) → read_fields (verbs.List version) [] ≡ Ok (listing_of version no_values)
-unfolding read_fields
-fields_none version = no_query version
-
-pub fields_query : (version : Version) (query : List ℕ) → read_fields (verbs.List version) (query ∷ []) ≡ list_read version query
-unfolding read_fields
-fields_query version query = listing_read_is version query
