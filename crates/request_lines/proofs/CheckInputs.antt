@@ -1,6 +1,6 @@
 -- The lines of an input of `check`, one after another, up to the line `----`.
 use Rattle.std.proofs.Common.{◌≡◌, if◌then◌else◌, ℕ, zero, suc, ◌+◌, ◌<◌, ◌≤◌, ◌==◌, Bool, true, false, Option, Some, None, Err, List, [], ◌∷◌, ◌++◌, length, take, drop, get_or, inl, inr, refl, sym, ap, subst, ◌∙◌, arith, append_assoc, append-nil}
-use Rattle.std.specs.List.{concat, before_first, after_first, list_any}
+use Rattle.std.specs.List.{concat, before_first, after_first, list_any, position_or_len}
 use Rattle.std.specs.Option.{option_map}
 use Rattle.std.specs.Borrow.{Bor}
 use Rattle.std.proofs.Math.Seq.{take-add}
@@ -77,14 +77,18 @@ before_is : (lines : List (List ℕ)) → before_divider lines ≡ concat (befor
 before_is [] = refl
 before_is (line ∷ lines) = elim (cases_Bool (is_divider line)) [
   | inl is ↦ rw is refl
-  | inr other ↦ rw other (ap (λ (l : List ℕ). line ++ l) (before_is lines))
+  | inr other ↦
+      let next : 1 + position_or_len is_divider lines ≡ suc (position_or_len is_divider lines) = omega arith in
+      rw other (ap (λ (l : List ℕ). line ++ l) (before_is lines) ∙ ap (λ (k : ℕ). concat (take k (line ∷ lines))) (sym next))
 ]
 
 after_is : (lines : List (List ℕ)) → after_divider lines ≡ (if list_any is_divider lines then Some (concat (after_first is_divider lines)) else None)
 after_is [] = refl
 after_is (line ∷ lines) = elim (cases_Bool (is_divider line)) [
   | inl is ↦ rw is refl
-  | inr other ↦ rw other (after_is lines)
+  | inr other ↦
+      let next : 1 + position_or_len is_divider lines + 1 ≡ suc (position_or_len is_divider lines + 1) = omega arith in
+      rw other (after_is lines ∙ ap (λ (k : ℕ). if list_any is_divider lines then Some (concat (drop k (line ∷ lines))) else None) (sym next))
 ]
 
 -- none of the lines in the first bytes is `----`
