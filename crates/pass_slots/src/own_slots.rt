@@ -91,8 +91,7 @@ impl OwnSlots {
     }
 
     /// Takes a slot out of the free ones. It is looked for from the end of the list, so the slots that are taken
-    /// should be the last ones. Slots near those of neighbouring keys would halve the time of a listing of 100,000
-    /// keys, but that gain is lost with the first puts of present keys.
+    /// should be the last ones.
     pub fn take(&mut self, slot: u32)
         requires { count slot self.old.free ≡ 1 }
         ensures free { self.new.free ≡ without slot self.old.free }
