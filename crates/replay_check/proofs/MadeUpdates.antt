@@ -68,7 +68,7 @@ module _ (c : Checked) where
           | inl less ↦ absurd (not_later [] texts us right i j u v here there less one)
           | inr most ↦
               elim (cases_lt j i) [
-                | inl more ↦ absurd (not_later [] texts us right j i v u there here more (record { client = sym one.client; line = sym one.line }))
+                | inl more ↦ absurd (not_later [] texts us right j i v u there here more (sym one.0, sym one.1))
                 | inr least ↦ omega arith
               ]
         ];
