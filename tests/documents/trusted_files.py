@@ -20,14 +20,22 @@ HERE = Path(__file__).resolve().parent.parent.parent
 DOCUMENT = HERE / "docs" / "TRUSTED.md"
 ROOTS = ["serve_session/src/serving.rt", "outside_io/src/source.rt", "outside_io/src/sink.rt"]
 HELPER = "-- Helper: the headline does not rest on this file."
-DECLARED = re.compile(r"^\s*(?:pub |ghost )*use Rattle\.(\w+)\.specs\.declared\.([\w.]+?)(?:\.TheVariants)?(?:\.\{| as )", re.MULTILINE)
 TYPES = re.compile(r"Rust types that the definitions speak of, (.*?)\. A `Text`", re.DOTALL)
-IMPORT = re.compile(r"^\s*(?:pub |ghost )*use Rattle\.(\w+)\.specs\.([\w.]+)\.\{", re.MULTILINE)
+USE = re.compile(r"^\s*(?:pub |ghost )*use Rattle\.(\w+)\.specs\.([\w.]*?)(?:\.?\{(.*)\}| as .*)?;?$", re.MULTILINE)
+
+
+def modules_of(path):
+    """The modules of definitions from which the file imports, each with its crate."""
+    for crate, module, names in USE.findall(path.read_text()):
+        for name in names.split(", ") if names else []:
+            yield crate, (module + "." + name).strip(".").rpartition(".")[0]
+        if not names:
+            yield crate, module
 
 
 def imports_of(path):
     """The definition files of this repository that the file imports."""
-    for crate, module in IMPORT.findall(path.read_text()):
+    for crate, module in modules_of(path):
         found = HERE / "crates" / crate / "specs" / (module.replace(".", "/") + ".antt")
         if found.exists():
             yield found
@@ -46,9 +54,9 @@ def closure():
 def types_of(names):
     """The Rust types of this repository that these files and the clauses of `serve` name, each with its crate."""
     for path in [HERE / name for name in names] + [HERE / "crates" / root for root in ROOTS]:
-        for crate, module in DECLARED.findall(path.read_text()):
-            if (HERE / "crates" / crate).is_dir():
-                yield "%s of %s" % (module.split(".")[-1], crate)
+        for crate, module in modules_of(path):
+            if module.startswith("declared.") and (HERE / "crates" / crate).is_dir():
+                yield "%s of %s" % (module.removesuffix(".TheVariants").split(".")[-1], crate)
 
 
 def types_listed(document):

@@ -1,22 +1,16 @@
 -- The text of a run: one JSON object a line, whose members stand in the byte order of their names.
 use Rattle.std.specs.Prelude.{ℕ, ◌+◌, ◌==◌, ◌||◌, not, Bool, true, false, List, [], ◌∷◌, ◌++◌, length, codes, if◌then◌else◌, Option, Some, None, slice_index_or}
-use Rattle.std.specs.Option.{option_map, option_map_or}
-use Rattle.std.specs.List.{filter_map, flat_map}
-use Rattle.std.specs.Char.{is_ascii_alphanumeric}
+use Rattle.std.specs.{Option.option_map, Option.option_map_or, List.filter_map, List.flat_map, Char.is_ascii_alphanumeric}
 use Rattle.percent_encoding.specs.Percent.{percent_encode_byte}
 use Rattle.serde_json.specs.Data.{Data, null, boolean, string, number, unsigned, array, object, Members, no_members, member}
 use Rattle.serde_json.specs.View.{items_of}
 use Rattle.serde_json.specs.Written.{compact_text}
 use Rattle.key_names.specs.Names.{name_at}
-use Rattle.key_map.specs.declared.update.Update.{Update}
-use Rattle.key_map.specs.declared.update.Change.{Change}
+use Rattle.key_map.specs.declared.{update.Update.Update, update.Change.Change}
 use Rattle.key_map.specs.declared.update.Change.TheVariants.{Put as PutVal, Remove}
-use Rattle.bucket_terms.specs.declared.record.Record.{Record}
-use Rattle.bucket_terms.specs.declared.page.PageEntry.{PageEntry}
+use Rattle.bucket_terms.specs.declared.{record.Record.Record, page.PageEntry.PageEntry, reply.Reply.Reply, reply.Placed.Placed}
 use Rattle.bucket_terms.specs.declared.page.PageEntry.TheVariants.{Key, Group}
-use Rattle.bucket_terms.specs.declared.reply.Reply.{Reply}
 use Rattle.bucket_terms.specs.declared.reply.Reply.TheVariants.{Put, Exists, Deleted, Found, Missing, Listed, ListedV1, BadToken, NoSlot}
-use Rattle.bucket_terms.specs.declared.reply.Placed.{Placed}
 use Rattle.bucket_terms.specs.Listing.{group_text, next_token, page_point, next_marker}
 use Rattle.bucket_terms.specs.LegalRun.{Run}
 
@@ -26,8 +20,7 @@ use Rattle.bucket_terms.specs.LegalRun.{Run}
 abbrev pub is_kept : ℕ → Bool
 is_kept b = is_ascii_alphanumeric b || (b == 45) || (b == 46) || (b == 95) || (b == 126) || (b == 47)
 
--- the text as an answer shows it: where the query asks for it, each other byte is `%` and two upper-case hexadecimal
--- digits
+-- the text as an answer shows it: under `url` each other byte is `%` and two upper-case hexadecimal digits
 abbrev pub shown : Bool → List ℕ → List ℕ
 shown true text = flat_map (λ b. if is_kept b then b ∷ [] else percent_encode_byte b) text
 shown false text = text
@@ -116,8 +109,7 @@ reply_end dir records line (Listed query page) =
     ∷ only_if page.truncated (codes "NextContinuationToken") (string (option_map_or (next_token query) (page_point dir page) []))
     ∷ always (codes "Prefix") (string (shown query.url query.prefix))
     ∷ only_if (is_given query.start_after) (codes "StartAfter") (string (shown query.url query.start_after))
-    ∷ always (codes "Status") (whole 200)
-    ∷ []
+    ∷ always (codes "Status") (whole 200) ∷ []
 reply_end dir records line (ListedV1 query page) =
     always (codes "CommonPrefixes") (array (items_of (filter_map (prefix_of dir query.url) page.entries)))
     ∷ always (codes "Contents") (array (items_of (filter_map (content_of dir records query.url) page.entries)))
@@ -129,8 +121,7 @@ reply_end dir records line (ListedV1 query page) =
     ∷ always (codes "MaxKeys") (whole query.max_keys)
     ∷ if_some (codes "NextMarker") (option_map (shown query.url) (next_marker dir query page))
     ∷ always (codes "Prefix") (string (shown query.url query.prefix))
-    ∷ always (codes "Status") (whole 200)
-    ∷ []
+    ∷ always (codes "Status") (whole 200) ∷ []
 reply_end dir records line BadToken = short_end line None 400
 reply_end dir records line NoSlot = short_end line None 503
 
@@ -144,8 +135,7 @@ abbrev pub verb_text : Change → List ℕ
 verb_text (PutVal val) = codes "PUT"
 verb_text Remove = codes "DELETE"
 
--- one update of the history: its place, the client and request line that made it, its key, which is never escaped, and
--- its verb
+-- one update of the history: its place, its client, its key, which is never escaped, its request line, and its verb
 abbrev pub journal_data : List (List ℕ) → ℕ → Update → Data
 journal_data dir place u = object_of (
     always (codes "At") (whole place) ∷ always (codes "Client") (whole u.client) ∷ always (codes "Key") (string (name_at dir u.key))
@@ -160,8 +150,7 @@ journal_lines dir place (u ∷ us) = line_of (journal_data dir place u) ++ journ
 abbrev pub counting_line : ℕ → List ℕ
 counting_line count = line_of (object_of (always (codes "Updates") (whole count) ∷ []))
 
--- the session text: the replies client by client, in the order of the requests; the journal by place, from 1;
--- and the number of updates
+-- the session text: the replies client by client, in order; the journal by place, from 1; and the number of updates
 abbrev pub session_text : List (List ℕ) → List Record → Run → List ℕ
 session_text dir records run =
     flat_map (flat_map (λ (p : Placed). line_of (reply_data dir records p))) run.replies

@@ -1,22 +1,15 @@
 -- A legal run of a session: the updates that were made, in order, and a placed reply for each request.
 -- A session is seen here as each client's list of request lines.
 use Rattle.std.specs.Prelude.{◌≡◌, ℕ, zero, suc, ◌+◌, ◌-◌, ◌<◌, ◌≤◌, ◌⊎◌, ◌==◌, ◌&&◌, nat_lt, Bool, true, false, MatchBool, List, [], ◌∷◌, ◌++◌, length, count_by, filter, All, Any, Option, Some, None, is_some, IfSome, MatchOption, slice_get, slice_index_or}
-use Rattle.std.specs.List.{last_or}
-use Rattle.std.specs.Option.{option_map, unwrap_or}
+use Rattle.std.specs.{List.last_or, Option.option_map, Option.unwrap_or}
 use Rattle.key_names.specs.Names.{IsRank}
-use Rattle.key_map.specs.declared.update.Update.{Update}
-use Rattle.key_map.specs.declared.update.Change.{Change}
+use Rattle.key_map.specs.declared.{update.Update.Update, update.Change.Change}
 use Rattle.key_map.specs.declared.update.Change.TheVariants.{Put as PutVal, Remove}
 use Rattle.key_map.specs.KeyMap.{map_has, map_get, after}
-use Rattle.bucket_terms.specs.declared.list_query.ListQuery.{ListQuery}
-use Rattle.bucket_terms.specs.declared.token_point.TokenPoint.{TokenPoint}
-use Rattle.bucket_terms.specs.declared.token.Bound.{Bound}
-use Rattle.bucket_terms.specs.declared.page.Page.{Page}
-use Rattle.bucket_terms.specs.declared.request.Request.{Request}
+use Rattle.bucket_terms.specs.declared.{list_query.ListQuery.ListQuery, token_point.TokenPoint.TokenPoint, token.Bound.Bound, page.Page.Page}
+use Rattle.bucket_terms.specs.declared.{request.Request.Request, reply.Reply.Reply, reply.Placed.Placed}
 use Rattle.bucket_terms.specs.declared.request.Request.TheVariants.{Put, PutNew, Delete, Head, List as ListRequest, ListV1, Next}
-use Rattle.bucket_terms.specs.declared.reply.Reply.{Reply}
 use Rattle.bucket_terms.specs.declared.reply.Reply.TheVariants.{Put as PutReply, Exists, Deleted, Found, Missing, Listed, ListedV1, BadToken, NoSlot}
-use Rattle.bucket_terms.specs.declared.reply.Placed.{Placed}
 use Rattle.bucket_terms.specs.Listing.{IsTokenOf, next_token, bound_of, page_of, page_point, v1_page}
 
 -- one request and the number of its line
@@ -29,8 +22,7 @@ pub record Answered : Type 0 where
   pub asked : RequestLine
   pub placed : Placed
 
--- what a client's requests are answered in: the names, the history of updates, the client's number, and
--- how many node slots it has
+-- what a client is answered in: the names, the history of updates, its number, and how many node slots it has
 pub record Setting : Type 0 where
   pub dir : List (List ℕ)
   pub updates : List Update
@@ -39,23 +31,19 @@ pub record Setting : Type 0 where
 
 -- ---- resolved requests
 
--- whether a listing goes on with a token: with one without a bound, or bound to its own prefix and delimiter
-abbrev pub IsBoundTo : Option Bound → ListQuery → Type 0
-IsBoundTo None query = Unit {0}
-IsBoundTo (Some bound) query = bound ≡ bound_of query
-
--- the point from which a listing goes on: none without a token, or that of the token whose text it is
+-- the point from which a listing goes on: none without a token, or that of the token whose text it is; a token with a
+-- bound fits only a listing of that prefix and delimiter, and one without a bound fits each
 abbrev pub IsPointOf : ListQuery → Option TokenPoint → Type 0
 IsPointOf query None = query.token ≡ []
-IsPointOf query (Some point) = (bound : Option Bound) × (IsBoundTo bound query × IsTokenOf (record { point = point; bound = bound }) query.token)
+IsPointOf query (Some point) =
+    (bound : Option Bound) × (IfSome bound (λ bound. bound ≡ bound_of query) × IsTokenOf (record { point = point; bound = bound }) query.token)
 
 -- the query and the point with which a listing goes on
 pub record Resumed : Type 0 where
   pub query : ListQuery
   pub point : TokenPoint
 
--- what NEXT goes on from: the page of the client's last LIST or NEXT, where there is one and it was truncated. LISTV1
--- lines between are passed over.
+-- where NEXT goes on: after the page of the client's last LIST or NEXT, if that was truncated; LISTV1 is passed over
 abbrev pub next_of : List (List ℕ) → Option Reply → Option Resumed
 next_of dir (Some (Listed query page)) =
     option_map (λ point. record { query = record query { token = next_token query point }; point = point }) (page_point dir page)

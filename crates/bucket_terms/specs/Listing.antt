@@ -2,23 +2,15 @@
 -- reference, ListObjectsV2: `Prefix`, `Delimiter`, `CommonPrefixes`, `StartAfter`, `MaxKeys`); continuation tokens; and
 -- listings of version 1.
 use Rattle.std.specs.Prelude.{◌≡◌, ℕ, ◌+◌, ◌/◌, ◌%◌, ◌≤◌, ◌==◌, ◌&&◌, Bool, true, false, not, nat_lt, if◌then◌else◌, List, [], ◌∷◌, ◌++◌, length, drop, take, map, filter, Option, Some, None, IfSome}
-use Rattle.std.specs.List.{dedup, last_or}
-use Rattle.std.specs.Option.{option_map, option_map_or}
-use Rattle.std.specs.Ordering.{is_lt}
-use Rattle.std.specs.Str.{bytes_eq, IsUtf8}
+use Rattle.std.specs.{List.dedup, List.last_or, Option.option_map, Option.option_map_or, Ordering.is_lt, Str.bytes_eq, Str.IsUtf8}
 use Rattle.base64.specs.Engines.{url_safe_no_pad}
 use Rattle.base64.specs.GeneralPurpose.{encode_of}
 use Rattle.key_names.specs.Names.{byte_order, name_at, begins_with, most_name_bytes, IsFine}
 use Rattle.key_map.specs.declared.pair.Pair.{Pair}
-use Rattle.bucket_terms.specs.declared.list_query.ListQuery.{ListQuery}
-use Rattle.bucket_terms.specs.declared.v1_query.V1Query.{V1Query}
-use Rattle.bucket_terms.specs.declared.token_point.TokenPoint.{TokenPoint}
+use Rattle.bucket_terms.specs.declared.{list_query.ListQuery.ListQuery, v1_query.V1Query.V1Query, token_point.TokenPoint.TokenPoint, token.Token.Token}
+use Rattle.bucket_terms.specs.declared.{token.Bound.Bound, page.PageEntry.PageEntry, page.Page.Page}
 use Rattle.bucket_terms.specs.declared.token_point.TokenPoint.TheVariants.{Key as AtKey, Group as AtGroup}
-use Rattle.bucket_terms.specs.declared.token.Token.{Token}
-use Rattle.bucket_terms.specs.declared.token.Bound.{Bound}
-use Rattle.bucket_terms.specs.declared.page.PageEntry.{PageEntry}
 use Rattle.bucket_terms.specs.declared.page.PageEntry.TheVariants.{Key, Group}
-use Rattle.bucket_terms.specs.declared.page.Page.{Page}
 
 -- whether `text` stands above `other` in the byte order
 abbrev pub is_above : List ℕ → List ℕ → Bool
@@ -40,20 +32,15 @@ first_end delimiter at [] = None
 first_end delimiter at (b ∷ bs) =
     if begins_with (b ∷ bs) delimiter then Some (at + length delimiter) else first_end delimiter (at + 1) bs
 
--- the length of the common prefix into which the name is rolled up: it ends with the first delimiter
--- at or after the prefix's length
+-- the length of the common prefix of a name: it ends with the first delimiter at or after the prefix's length
 unfoldable pub group_len : ListQuery → List ℕ → Option ℕ
 group_len query name =
     if length query.delimiter == 0 then None
     else first_end query.delimiter (length query.prefix) (drop (length query.prefix) name)
 
 -- the entry of a pair: its common prefix, or else its key
-abbrev pub entry_by : Option ℕ → Pair → PageEntry
-entry_by (Some len) p = Group p.key len
-entry_by None p = Key p.key p.val
-
 abbrev pub entry_of : List (List ℕ) → ListQuery → Pair → PageEntry
-entry_of dir query p = entry_by (group_len query (name_at dir p.key)) p
+entry_of dir query p = option_map_or (Group p.key) (group_len query (name_at dir p.key)) (Key p.key p.val)
 
 -- the text of a common prefix
 abbrev pub group_text : List (List ℕ) → ℕ → ℕ → List ℕ
@@ -69,8 +56,7 @@ unfoldable pub entries_of : List (List ℕ) → ListQuery → Option TokenPoint 
 entries_of dir query point m =
     dedup (is_same_group dir) (map (entry_of dir query) (filter (is_under dir query) (filter (λ p. is_admitted query point (name_at dir p.key)) m)))
 
--- the page of a query on a map, from a point on: the first `max_keys` of the entries; truncated where it may have some
--- and more are left
+-- the page of a query on a map, from a point on: the first `max_keys` entries; truncated if some fit and more are left
 abbrev pub page_of : List (List ℕ) → ListQuery → Option TokenPoint → List Pair → Page
 page_of dir query point m = record {
   entries = take query.max_keys (entries_of dir query point m);

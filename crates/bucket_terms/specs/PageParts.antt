@@ -2,15 +2,20 @@
 -- The parts of a page and of a token by which they are made.
 use Rattle.std.specs.Prelude.{ℕ, ◌&&◌, nat_lt, List, [], ◌∷◌, length, take, map, filter, Option, Some, None}
 use Rattle.std.specs.List.{dedup}
-use Rattle.std.specs.Option.{option_map}
+use Rattle.std.specs.Option.{option_map, option_map_or}
 use Rattle.key_map.specs.declared.pair.Pair.{Pair}
 use Rattle.bucket_terms.specs.declared.list_query.ListQuery.{ListQuery}
 use Rattle.bucket_terms.specs.declared.token_point.TokenPoint.{TokenPoint}
 use Rattle.bucket_terms.specs.declared.token.Bound.{Bound}
 use Rattle.bucket_terms.specs.declared.token.Token.{Token}
 use Rattle.bucket_terms.specs.declared.page.PageEntry.{PageEntry}
+use Rattle.bucket_terms.specs.declared.page.PageEntry.TheVariants.{Key, Group}
 use Rattle.bucket_terms.specs.declared.page.Page.{Page}
 use Rattle.bucket_terms.specs.Listing.{IsShortText, bytes_by, is_under, entry_of, is_same_group, entry_point, page_point, point_text}
+
+-- the entry of a pair whose name is rolled up into a common prefix of this length, or of one whose name is not
+abbrev pub entry_by : Option ℕ → Pair → PageEntry
+entry_by len p = option_map_or (Group p.key) len (Key p.key p.val)
 
 -- the entries under the prefix: each group once
 unfoldable pub listing : List (List ℕ) → ListQuery → List Pair → List PageEntry

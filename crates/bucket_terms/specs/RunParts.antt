@@ -1,13 +1,15 @@
 -- Helper: the headline does not rest on this file.
 -- The parts of a legal run by which it is proved.
-use Rattle.std.specs.Prelude.{◌≡◌, ℕ, ◌+◌, ◌<◌, ◌≤◌, ⊤, ◌==◌, ◌&&◌, nat_lt, Bool, List, count_by, Option, Some, None, MatchOption}
+use Rattle.std.specs.Prelude.{◌≡◌, ℕ, ◌+◌, ◌<◌, ◌≤◌, ⊤, ◌==◌, ◌&&◌, nat_lt, Bool, List, count_by, Option, Some, None, MatchOption, IfSome}
 use Rattle.key_map.specs.declared.pair.Pair.{Pair}
 use Rattle.key_map.specs.declared.update.Update.{Update}
 use Rattle.key_map.specs.Map.{map_get}
 use Rattle.key_map.specs.KeyMap.{after}
 use Rattle.bucket_terms.specs.declared.page.Page.{Page}
+use Rattle.bucket_terms.specs.declared.token.Bound.{Bound}
+use Rattle.bucket_terms.specs.declared.list_query.ListQuery.{ListQuery}
 use Rattle.bucket_terms.specs.declared.v1_query.V1Query.{V1Query}
-use Rattle.bucket_terms.specs.Listing.{v1_page}
+use Rattle.bucket_terms.specs.Listing.{bound_of, v1_page}
 use Rattle.bucket_terms.specs.declared.reply.Reply.{Reply}
 use Rattle.bucket_terms.specs.declared.reply.Reply.TheVariants.{Found, Missing}
 use Rattle.bucket_terms.specs.LegalRun.{RequestLine, Setting, Answered, Run, is_update}
@@ -46,3 +48,7 @@ setting_of dir run slots client = record { dir = dir; updates = run.updates; cli
 -- the page of version 1 is the map's at the place, for this query
 abbrev pub ListsV1 : Setting → ℕ → V1Query → V1Query → Page → Type 0
 ListsV1 setting at query shown page = (shown ≡ query) × (page ≡ v1_page setting.dir query (after setting.updates at))
+
+-- whether a listing goes on with a token: with one without a bound, or bound to its own prefix and delimiter
+abbrev pub IsBoundTo : Option Bound → ListQuery → Type 0
+IsBoundTo bound query = IfSome bound (λ bound. bound ≡ bound_of query)

@@ -12,7 +12,8 @@ use Rattle.bucket_terms.specs.declared.token.Token.{Token}
 use Rattle.bucket_terms.specs.Listing.{IsTokenOf, page_of, plain, marker_point}
 use Rattle.page_token.specs.OneToken.{HasOneToken}
 use Rattle.bucket_terms.specs.PassView.{PassView, KnowsOwn}
-use Rattle.bucket_terms.specs.LegalRun.{Resumed, IsPointOf, IsBoundTo, IsRight, next_of}
+use Rattle.bucket_terms.specs.LegalRun.{Resumed, IsPointOf, IsRight, next_of}
+use Rattle.bucket_terms.specs.RunParts.{IsBoundTo}
 use Rattle.key_map.specs.History.{after}
 use Rattle.client_run.specs.ClientRun.{setting, answered, Answers}
 use Rattle.client_run.specs.Listing.{ListedAs, ListedV1As, HasPageInRange}

@@ -6,7 +6,8 @@ use Rattle.bucket_terms.specs.declared.list_query.ListQuery.{ListQuery}
 use Rattle.bucket_terms.specs.declared.token_point.TokenPoint.{TokenPoint}
 use Rattle.bucket_terms.specs.declared.token.Token.{Token}
 use Rattle.bucket_terms.specs.Listing.{IsTokenOf, next_token}
-use Rattle.bucket_terms.specs.LegalRun.{Resumed, IsPointOf, IsBoundTo}
+use Rattle.bucket_terms.specs.LegalRun.{Resumed, IsPointOf}
+use Rattle.bucket_terms.specs.RunParts.{IsBoundTo}
 use Rattle.client_run.specs.declared.pages.Resumption.{Resumption}
 use Rattle.client_run.specs.declared.pages.Start.{Start}
 use Rattle.client_run.specs.declared.pages.Start.TheVariants.{First, Behind, Bad}

@@ -14,8 +14,8 @@ use Rattle.bucket_terms.specs.declared.token_point.TokenPoint.{TokenPoint}
 use Rattle.bucket_terms.specs.declared.token_point.TokenPoint.TheVariants.{Key as AtKey, Group as AtGroup}
 use Rattle.bucket_terms.specs.declared.page.PageEntry.{PageEntry}
 use Rattle.bucket_terms.specs.declared.page.Page.{Page}
-use Rattle.bucket_terms.specs.Listing.{group_len, entry_by, entry_of, entries_of, entry_point, page_point, point_text, plain, is_common_prefix, marker_point, v1_page}
-use Rattle.bucket_terms.specs.PageParts.{cut_at, last_text}
+use Rattle.bucket_terms.specs.Listing.{group_len, entry_of, entries_of, entry_point, page_point, point_text, plain, is_common_prefix, marker_point, v1_page}
+use Rattle.bucket_terms.specs.PageParts.{cut_at, last_text, entry_by}
 use Rattle.bucket_terms.proofs.PagePoints.{last_point-is}
 use Rattle.page_rules.specs.PageLaw.{AreChained as AreChainedByPoints}
 use Rattle.page_rules.proofs.Groups.{rolled_up, begins_same, group_same}

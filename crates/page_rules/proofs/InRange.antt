@@ -11,8 +11,8 @@ use Rattle.key_map.specs.declared.pair.Pair.{Pair}
 use Rattle.bucket_terms.specs.declared.list_query.ListQuery.{ListQuery}
 use Rattle.bucket_terms.specs.declared.token_point.TokenPoint.{TokenPoint}
 use Rattle.bucket_terms.specs.declared.page.Page.{Page}
-use Rattle.bucket_terms.specs.Listing.{is_under, is_admitted, group_len, entry_by, entry_of, is_same_group, entries_of, page_of}
-use Rattle.bucket_terms.specs.PageParts.{listing}
+use Rattle.bucket_terms.specs.Listing.{is_under, is_admitted, group_len, entry_of, is_same_group, entries_of, page_of}
+use Rattle.bucket_terms.specs.PageParts.{listing, entry_by}
 use Rattle.bucket_terms.specs.PageInRange.{IsGroupInRange, IsEntryInRange, IsInRange}
 use Rattle.page_rules.proofs.NameOrder.{begins_take}
 use Rattle.page_rules.proofs.Groups.{rolled_up}

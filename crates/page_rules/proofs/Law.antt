@@ -9,8 +9,8 @@ use Rattle.bucket_terms.specs.declared.list_query.ListQuery.{ListQuery}
 use Rattle.bucket_terms.specs.declared.token_point.TokenPoint.{TokenPoint}
 use Rattle.bucket_terms.specs.declared.page.PageEntry.{PageEntry}
 use Rattle.bucket_terms.specs.declared.page.Page.{Page}
-use Rattle.bucket_terms.specs.Listing.{is_above, group_len, entry_by, entry_of, group_text, entries_of, entry_point, page_point, page_of}
-use Rattle.bucket_terms.specs.PageParts.{last_point, cut_at}
+use Rattle.bucket_terms.specs.Listing.{is_above, group_len, entry_of, group_text, entries_of, entry_point, page_point, page_of}
+use Rattle.bucket_terms.specs.PageParts.{last_point, cut_at, entry_by}
 use Rattle.bucket_terms.proofs.PagePoints.{last_point-is}
 use Rattle.page_rules.specs.PageLaw.{LeavesTheRest, AreChained, all_entries, BeginsAll, entry_text, RiseByText}
 use Rattle.page_rules.proofs.NameOrder.{not_above_back, begins_between, begins_own, begins_trans}

@@ -12,8 +12,8 @@ use Rattle.bucket_terms.specs.declared.list_query.ListQuery.{ListQuery}
 use Rattle.bucket_terms.specs.declared.token_point.TokenPoint.{TokenPoint}
 use Rattle.bucket_terms.specs.declared.page.PageEntry.{PageEntry}
 use Rattle.key_names.specs.Names.{begins_with}
-use Rattle.bucket_terms.specs.Listing.{is_above, is_admitted, is_under, group_len, entry_by, entry_of, group_text, is_same_group, entry_point}
-use Rattle.bucket_terms.specs.PageParts.{listing}
+use Rattle.bucket_terms.specs.Listing.{is_above, is_admitted, is_under, group_len, entry_of, group_text, is_same_group, entry_point}
+use Rattle.bucket_terms.specs.PageParts.{listing, entry_by}
 use Rattle.page_rules.proofs.NameOrder.{above_upto, begins_not_below, begins_own, begins_take}
 use Rattle.page_rules.proofs.Groups.{rolled_up, group_same}
 use Rattle.page_rules.proofs.Admission.{above_by_rank, admitted_above}

@@ -10,8 +10,8 @@ use Rattle.bucket_terms.specs.declared.list_query.ListQuery.{ListQuery}
 use Rattle.bucket_terms.specs.declared.token_point.TokenPoint.{TokenPoint}
 use Rattle.bucket_terms.specs.declared.page.PageEntry.{PageEntry}
 use Rattle.key_names.specs.Names.{begins_with}
-use Rattle.bucket_terms.specs.Listing.{is_above, is_admitted, is_under, entry_by, entry_of, group_text, is_same_group, entries_of, entry_point}
-use Rattle.bucket_terms.specs.PageParts.{listing}
+use Rattle.bucket_terms.specs.Listing.{is_above, is_admitted, is_under, entry_of, group_text, is_same_group, entries_of, entry_point}
+use Rattle.bucket_terms.specs.PageParts.{listing, entry_by}
 use Rattle.page_rules.proofs.Rolled.{filter_congr, filter-filter}
 use Rattle.page_rules.proofs.NameOrder.{above_irreflexive, not_above_back, begins_between, begins_own}
 use Rattle.page_rules.proofs.Admission.{above_by_rank, admitted_above}

@@ -11,8 +11,8 @@ use Rattle.key_map.specs.Map.{IsMap, first_from}
 use Rattle.bucket_terms.specs.declared.list_query.ListQuery.{ListQuery}
 use Rattle.bucket_terms.specs.declared.token_point.TokenPoint.{TokenPoint}
 use Rattle.bucket_terms.specs.declared.page.PageEntry.{PageEntry}
-use Rattle.bucket_terms.specs.Listing.{is_under, group_len, entry_by, entry_of, entries_of, page_of, entry_point}
-use Rattle.bucket_terms.specs.PageParts.{listing}
+use Rattle.bucket_terms.specs.Listing.{is_under, group_len, entry_of, entries_of, page_of, entry_point}
+use Rattle.bucket_terms.specs.PageParts.{listing, entry_by}
 use Rattle.page_rules.specs.Cursor.{CursorView, page_so_far, GoesOnAt, pairs_from, IsOnWay, IsNext, adds, look_ups_left, Took, IsOver}
 use Rattle.page_rules.specs.CursorInside.{IsOpenAt, IsCursor}
 use Rattle.page_rules.specs.PageLaw.{entry_text}

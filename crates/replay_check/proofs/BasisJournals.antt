@@ -8,8 +8,8 @@ use Rattle.bucket_terms.specs.declared.reply.Placed.{Placed}
 use Rattle.request_lines.specs.SessionLaws.{all_requests}
 use Rattle.answer_text.specs.Lines.{line_of}
 use Rattle.answer_text.specs.Shown.{last_data}
-use Rattle.text_laws.specs.WrongLine.{journal_texts, last_text, requests_of}
-use Rattle.text_laws.specs.WrongParts.{AreAllReplies, IsWrongReply, text_at}
+use Rattle.text_laws.specs.WrongLine.{journal_texts, requests_of}
+use Rattle.text_laws.specs.WrongParts.{AreAllReplies, IsWrongReply, text_at, last_text}
 use Rattle.replay_check.specs.declared.basis.Basis.{Basis}
 use Rattle.replay_check.specs.declared.verdict.Verdict.TheVariants.{Legal, Wrong}
 use Rattle.replay_check.specs.Judging.{IsVerdict}

@@ -16,7 +16,7 @@ use Rattle.bucket_terms.specs.LegalRun.{RequestLine, AskedChange, asked_change, 
 use Rattle.request_lines.specs.declared.session.Asked.{Asked}
 use Rattle.request_lines.specs.Session.{request_line}
 use Rattle.request_lines.specs.SessionLaws.{Rise, requested_name}
-use Rattle.text_laws.specs.WrongLine.{Makes}
+use Rattle.text_laws.specs.WrongParts.{Makes}
 use Rattle.text_laws.proofs.OneUpdate.{one_line, one_change}
 use Rattle.replay_check.specs.declared.journal.Told.{Told}
 use Rattle.replay_check.specs.Telling.{IsSplitAt, IsToldBy}
@@ -84,7 +84,7 @@ none_made dir lines line place rising split none u same made =
     let k = made.0 in
     let l = made.1 in
     let here : slice_get lines k ≡ Some l = slice_get-get_or lines k l made.2 ∙ ap (λ (m : RequestLine). Some m) made.3 in
-    let number : l.line ≡ line = made.4.line ∙ same in
+    let number : l.line ≡ line = made.4.0 ∙ same in
     elim (cases_lt k place) [
       | inl less ↦ let below : l.line < line = split.before k l here less in absurd (omega arith)
       | inr most ↦
@@ -100,7 +100,7 @@ none_made dir lines line place rising split none u same made =
             | inr least ↦
                 let at : k ≡ place = omega arith in
                 let no_change : asked_change l.request ≡ None = none l (ap (λ (n : ℕ). slice_get lines n) (sym at) ∙ here) number in
-                subst (λ (o : Option AskedChange). MatchOption o ⊥ (λ asked. IsRank dir asked.name u.key × (u.change ≡ asked.change))) no_change made.4.change
+                subst (λ (o : Option AskedChange). MatchOption o ⊥ (λ asked. IsRank dir asked.name u.key × (u.change ≡ asked.change))) no_change made.4.1
           ]
     ]
 
@@ -123,9 +123,9 @@ told_is dir lines client line (Some told) u names rising by number made is =
     let m = made.1 in
     let inside : is.asked ≡ is.asked = refl in
     let here : get_or lines told.request l ≡ l = get_or_from_slice_get lines told.request l l is.asked_is in
-    let same : l.line ≡ m.line = is.makes.line ∙ is.line_is ∙ sym number ∙ sym made.4.line in
+    let same : l.line ≡ m.line = is.makes.0 ∙ is.line_is ∙ sym number ∙ sym made.4.0 in
     let lines_same : l ≡ m = one_line lines told.request made.0 l m rising (slice_get_within lines told.request l is.asked_is) made.2 here made.3 same in
-    let change = one_change dir told.update u l.request names is.makes.change (subst (λ (x : RequestLine). IsChangeOf dir u x.request) (sym lines_same) made.4.change) in
+    let change = one_change dir told.update u l.request names is.makes.1 (subst (λ (x : RequestLine). IsChangeOf dir u x.request) (sym lines_same) made.4.1) in
     let t = told.update in
     ap (λ (v : Update). Some v)
     (ap (λ (n : ℕ). record { client = n; line = t.line; key = t.key; change = t.change }) (is.client_is ∙ sym by)

@@ -14,8 +14,8 @@ use Rattle.request_lines.specs.declared.session.ClientPart.{ClientPart}
 use Rattle.request_lines.specs.Session.{request_lines}
 use Rattle.request_lines.specs.SessionLaws.{Rise}
 use Rattle.answer_text.specs.Lines.{line_of, journal_data}
-use Rattle.text_laws.specs.WrongLine.{Checked, IsJournalLine, AreJournal, AreOfOneLine}
-use Rattle.text_laws.specs.WrongParts.{text_at}
+use Rattle.text_laws.specs.WrongLine.{Checked, IsJournalLine, AreJournal}
+use Rattle.text_laws.specs.WrongParts.{text_at, AreOfOneLine}
 use Rattle.text_laws.proofs.OneUpdate.{one_place}
 use Rattle.replay_check.specs.declared.journal.Told.{Told}
 use Rattle.replay_check.specs.Turns.{IsOwnPlace}
@@ -60,7 +60,7 @@ module _ (c : Checked) (earlier : List Update) (own : List (List (Option ℕ))) 
       record {
         client = is.client;
         made = (told.request, is.asked, slice_get_within lines told.request is.asked is.asked_is, get_or_from_slice_get lines told.request is.asked is.asked is.asked_is, is.makes);
-        first = λ k d inside same. none k d inside (record { by = same.client; for_line = same.line ∙ sym is.makes.line });
+        first = λ k d inside same. none k d inside (record { by = same.0; for_line = same.1 ∙ sym is.makes.0 });
         text_is = text_is;
       }
 
@@ -71,7 +71,7 @@ module _ (c : Checked) (earlier : List Update) (own : List (List (Option ℕ))) 
       let i = there.0 in
       let v = there.1.0 in
       let here : slice_get earlier i ≡ Some v = there.1.1.1.0 in
-      let of : AreOfOneLine v told.update = record { client = there.1.1.1.1.by; line = there.1.1.1.1.for_line ∙ is.makes.line } in
+      let of : AreOfOneLine v told.update = (there.1.1.1.1.by, there.1.1.1.1.for_line ∙ is.makes.0) in
       line.first i v (slice_get_within earlier i v here) (subst (λ (w : Update). AreOfOneLine w told.update) (sym (get_or_from_slice_get earlier i v v here)) of)
 
 -- ---- the lines so far with one more

@@ -8,8 +8,8 @@ use Rattle.std.proofs.lemmas.Option.{same_Some, none-some, slice_get_within, get
 use Rattle.std.proofs.lemmas.List.{length-take-le}
 use Rattle.key_map.specs.declared.update.Update.{Update}
 use Rattle.bucket_terms.specs.LegalRun.{RequestLine, lines_of}
-use Rattle.text_laws.specs.WrongLine.{Checked, AreOfOneLine, Makes, AreJournal, requests_of}
-use Rattle.text_laws.specs.WrongParts.{IsWrongUpdate}
+use Rattle.text_laws.specs.WrongLine.{Checked, AreJournal, requests_of}
+use Rattle.text_laws.specs.WrongParts.{IsWrongUpdate, AreOfOneLine, Makes}
 use Rattle.text_laws.proofs.GoesOn.{journal_length}
 use Rattle.replay_check.specs.Looking.{AreMade}
 use Rattle.replay_check.proofs.UsedBefore.{mark, count_none, count_cons, counts_add, line_of_update}
@@ -68,7 +68,7 @@ module _ (c : Checked) where
           | inl less ↦ absurd (not_later [] texts us right i j u v here there less one)
           | inr most ↦
               elim (cases_lt j i) [
-                | inl more ↦ absurd (not_later [] texts us right j i v u there here more (record { client = sym one.client; line = sym one.line }))
+                | inl more ↦ absurd (not_later [] texts us right j i v u there here more (sym one.0, sym one.1))
                 | inr least ↦ omega arith
               ]
         ];
@@ -156,7 +156,7 @@ module _ (c : Checked) (us : List Update) (made : AreMade c us) where
       × ((m : RequestLine) × ((slice_get (lines_of c.parts u.client) (index_of (lines_of c.parts u.client) u.line) ≡ Some m) × (m.line ≡ u.line)))
   found i u here =
       let own = line_of_update c.dir u (lines_of c.parts u.client) (made.made i u here).1 in
-      index_found (lines_of c.parts u.client) u.line own.0 own.1.0 own.1.1.0 own.1.1.1.line
+      index_found (lines_of c.parts u.client) u.line own.0 own.1.0 own.1.1.0 own.1.1.1.0
 
   within : (i : ℕ) (u : Update) → slice_get us i ≡ Some u → place u < requests_of c.parts
   unfolding place
@@ -187,7 +187,7 @@ module _ (c : Checked) (us : List Update) (made : AreMade c us) where
                   ∙ ap (λ (l : RequestLine). l.line) (same_Some here.1.0 there.1.0 (sym here.1.1.0 ∙ ap (slice_get (lines_of c.parts u.client)) index
                   ∙ ap (λ (k : ℕ). slice_get (lines_of c.parts k) (index_of (lines_of c.parts v.client) v.line)) client ∙ there.1.1.0))
                   ∙ there.1.1.1 in
-                  made.one i j u v at_u at_v (record { client = client; line = line })
+                  made.one i j u v at_u at_v (client, line)
             ]
       ]
 

@@ -11,8 +11,8 @@ use Rattle.bucket_terms.specs.LegalRun.{RequestLine, Answered, IsOf, IsChangeOf,
 use Rattle.bucket_terms.proofs.LastListing.{last_listing-push}
 use Rattle.client_run.specs.Listing.{HasPageInRange}
 use Rattle.request_lines.specs.SessionLaws.{Rise}
-use Rattle.text_laws.specs.WrongLine.{Checked, IsReplyLine, Makes, setting, reply_texts, first_reply}
-use Rattle.text_laws.specs.WrongParts.{HasAllParts, text_at}
+use Rattle.text_laws.specs.WrongLine.{Checked, IsReplyLine, setting, reply_texts, first_reply}
+use Rattle.text_laws.specs.WrongParts.{HasAllParts, text_at, Makes}
 use Rattle.text_laws.proofs.Spelled.{line_begins}
 use Rattle.text_laws.proofs.OneReply.{small_place}
 use Rattle.replay_check.specs.declared.replay.Replay.{Replay}
@@ -53,9 +53,9 @@ module _ (c : Checked) (updates : List Update) (texts : List (List ℕ)) (number
       let lines = lines_of c.parts number in
       let own = line_of_update c.dir u lines (subst (λ (k : ℕ). Any (Makes c.dir u) (lines_of c.parts k)) of.by (made.made i u here).1) in
       let l = own.1.0 in
-      let at : own.0 ≡ n = same_place lines own.0 n l asked rising own.1.1.0 there (own.1.1.1.line ∙ of.for_line) in
+      let at : own.0 ≡ n = same_place lines own.0 n l asked rising own.1.1.0 there (own.1.1.1.0 ∙ of.for_line) in
       let same : l ≡ asked = same_Some l asked (sym own.1.1.0 ∙ ap (slice_get lines) at ∙ there) in
-      subst (λ (m : RequestLine). IsChangeOf c.dir u m.request) same own.1.1.1.change
+      subst (λ (m : RequestLine). IsChangeOf c.dir u m.request) same own.1.1.1.1
 
   pub knows_turn : (client : Client) (come : HasCome c updates texts number client) (asked : RequestLine) (own : Option ℕ) (replay : Replay) → Rises c.dir
       → slice_get (lines_of c.parts number) client.next ≡ Some asked → IsOwnPlace (history_of updates number) asked.line own → IsReplayed replay updates replay.at
@@ -63,7 +63,7 @@ module _ (c : Checked) (updates : List Update) (texts : List (List ℕ)) (number
   knows_turn client come asked own replay names there is replayed = record {
     rising = names;
     own_is = own_in c updates number asked.line own is;
-    one = λ i j u v here_i here_j of_u of_v. made.one i j u v here_i here_j (record { client = of_u.by ∙ sym of_v.by; line = of_u.for_line ∙ sym of_v.for_line });
+    one = λ i j u v here_i here_j of_u of_v. made.one i j u v here_i here_j (of_u.by ∙ sym of_v.by, of_u.for_line ∙ sym of_v.for_line);
     change = change_of client.next asked there;
     slots_is = come.slots;
     used_is = come.used asked there;

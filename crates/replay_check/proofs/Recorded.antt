@@ -19,8 +19,8 @@ use Rattle.bucket_terms.specs.declared.request.Request.{Request}
 use Rattle.bucket_terms.specs.declared.request.Request.TheVariants.{Put, PutNew, Delete, Head, List as ListRequest, ListV1, Next}
 use Rattle.bucket_terms.specs.declared.reply.Reply.{Reply}
 use Rattle.bucket_terms.specs.declared.reply.Reply.TheVariants.{ListedV1, BadToken, NoSlot}
-use Rattle.bucket_terms.specs.Listing.{is_under, is_admitted, group_len, entry_by, entry_of, is_same_group, entries_of, page_of, plain, marker_point, v1_page}
-use Rattle.bucket_terms.specs.PageParts.{listing}
+use Rattle.bucket_terms.specs.Listing.{is_under, is_admitted, group_len, entry_of, is_same_group, entries_of, page_of, plain, marker_point, v1_page}
+use Rattle.bucket_terms.specs.PageParts.{listing, entry_by}
 use Rattle.bucket_terms.specs.PageInRange.{IsInRange}
 use Rattle.bucket_terms.specs.RunParts.{head_by}
 use Rattle.bucket_terms.specs.LegalRun.{Resumed, next_of}

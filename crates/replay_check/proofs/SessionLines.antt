@@ -10,7 +10,8 @@ use Rattle.request_lines.specs.declared.session.Session.{Session}
 use Rattle.request_lines.specs.Session.{request_lines}
 use Rattle.request_lines.specs.SessionLaws.{HasLineNumber, IsAskable, IsServed, Rise}
 use Rattle.client_run.proofs.Sessions.{askable}
-use Rattle.text_laws.specs.WrongLine.{Checked, Makes}
+use Rattle.text_laws.specs.WrongLine.{Checked}
+use Rattle.text_laws.specs.WrongParts.{Makes}
 use Rattle.replay_check.specs.Telling.{IsRead, IsOfSession}
 
 -- what holds of each element holds of the one at a place
@@ -68,5 +69,5 @@ module _ (session : Session) (dir : List (List ℕ)) (read : IsRead session dir)
         let number : HasLineNumber (get_or (lines_of c.parts u.client) made.0 l) = numbers made.0 l made.2 in
         let small = number.1 in
         let is : (get_or (lines_of c.parts u.client) made.0 l).line ≡ l.line = ap (λ (m : RequestLine). m.line) made.3 in
-        let line : l.line ≡ u.line = made.4.line in
+        let line : l.line ≡ u.line = made.4.0 in
         omega arith

@@ -13,7 +13,8 @@ use Rattle.request_lines.specs.declared.session.ClientPart.{ClientPart}
 use Rattle.request_lines.specs.declared.session.Session.{Session}
 use Rattle.request_lines.specs.Session.{request_line, request_lines}
 use Rattle.request_lines.specs.SessionLaws.{HasRecordBelow, IsServed, record_place}
-use Rattle.text_laws.specs.WrongLine.{Checked, Makes}
+use Rattle.text_laws.specs.WrongLine.{Checked}
+use Rattle.text_laws.specs.WrongParts.{Makes}
 use Rattle.replay_check.specs.declared.replay.Replay.{Replay}
 use Rattle.replay_check.specs.Replaying.{IsReplayed}
 use Rattle.replay_check.specs.Telling.{IsRead, IsOfSession}
@@ -46,7 +47,7 @@ module _ (session : Session) (dir : List (List ℕ)) (read : IsRead session dir)
       let own = line_of_update c.dir u (request_lines found.0) (subst (λ (ls : List RequestLine). Any (Makes c.dir u) ls) lines m.1) in
       let below : HasRecordBelow (length session.records) own.1.0 =
       each_at (HasRecordBelow (length session.records)) (request_lines found.0) own.0 own.1.0 (recorded_line u.client found.0 found.1) own.1.1.0 in
-      puts_below (length session.records) c.dir u own.1.0.request below own.1.1.1.change
+      puts_below (length session.records) c.dir u own.1.0.request below own.1.1.1.1
 
   all_puts : All (λ (u : Update). PutsBelow (length session.records) u.change) updates
   all_puts i d inside = puts i _ (slice_get-get_or updates i d inside)

@@ -8,7 +8,8 @@ use Rattle.std.proofs.lemmas.List.Sums.{sum_by-cons}
 use Rattle.key_map.specs.declared.update.Update.{Update}
 use Rattle.bucket_terms.specs.LegalRun.{RequestLine, IsOf, lines_of}
 use Rattle.request_lines.specs.SessionLaws.{Rise}
-use Rattle.text_laws.specs.WrongLine.{Checked, Makes}
+use Rattle.text_laws.specs.WrongLine.{Checked}
+use Rattle.text_laws.specs.WrongParts.{Makes}
 use Rattle.replay_check.specs.Turns.{IsOwnPlace, used_before}
 use Rattle.replay_check.specs.Own.{history_of}
 use Rattle.replay_check.specs.Looking.{AreMade}
@@ -144,7 +145,7 @@ module _ (c : Checked) (updates : List Update) (made : AreMade c updates) (numbe
       let own = own_line i u here by in
       let k = own.0 in
       let l = own.1.0 in
-      let line : l.line ≡ u.line = own.1.1.1.line in
+      let line : l.line ≡ u.line = own.1.1.1.0 in
       elim (cases_lt 0 k) [
         | inl later ↦ let rises = rises_at (lines_of c.parts number) 0 k asked l rising first own.1.1.0 later in omega arith
         | inr least ↦
@@ -162,7 +163,7 @@ module _ (c : Checked) (updates : List Update) (made : AreMade c updates) (numbe
         let k = own.0 in
         let l = own.1.0 in
         let is : slice_get lines k ≡ Some l = own.1.1.0 in
-        let line : l.line ≡ u.line = own.1.1.1.line in
+        let line : l.line ≡ u.line = own.1.1.1.0 in
         elim (cases_lt k n) [
           | inl less ↦ let rises = rises_at lines k n l asked rising is here less in inl (omega arith)
           | inr most ↦
@@ -199,7 +200,7 @@ module _ (c : Checked) (updates : List Update) (made : AreMade c updates) (numbe
         let of = is.1.1.1.1 in
         count_one (of_line number asked.line) updates i u at (is_true u.client number u.line asked.line of.by of.for_line) (λ j v at_v passing.
         let parts = parts_of v.client number v.line asked.line passing in
-        made.one i j u v at at_v (record { client = of.by ∙ sym parts.0; line = of.for_line ∙ sym parts.1 }))
+        made.one i j u v at at_v (of.by ∙ sym parts.0, of.for_line ∙ sym parts.1))
 
     pub used_next : (own : Option ℕ) → IsOwnPlace (history_of updates number) asked.line own → used_before updates number next ≡ used_before updates number asked + mark (is_some own)
     used_next own is =

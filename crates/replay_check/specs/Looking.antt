@@ -9,8 +9,8 @@ use Rattle.bucket_terms.specs.declared.request.Request.{Request}
 use Rattle.bucket_terms.specs.LegalRun.{RequestLine, Answered, answered_lines, is_listing, last_listing, lines_of}
 use Rattle.answer_text.specs.Pieces.{place_text}
 use Rattle.client_run.specs.Listing.{HasPageInRange}
-use Rattle.text_laws.specs.WrongLine.{Checked, AreJournal, journal_texts, IsReplyLine, AreReplies, AreOfOneLine, Makes, reply_texts, first_reply}
-use Rattle.text_laws.specs.WrongParts.{AreAllReplies, IsWrongReply, HasAllParts, text_at}
+use Rattle.text_laws.specs.WrongLine.{Checked, AreJournal, journal_texts, IsReplyLine, AreReplies, reply_texts, first_reply}
+use Rattle.text_laws.specs.WrongParts.{AreAllReplies, IsWrongReply, HasAllParts, text_at, AreOfOneLine, Makes}
 use Rattle.replay_check.specs.declared.basis.Basis.{Basis}
 use Rattle.replay_check.specs.declared.turns.Client.{Client}
 use Rattle.replay_check.specs.Own.{AreOwn}

@@ -10,8 +10,8 @@ use Rattle.bucket_terms.specs.LegalRun.{RequestLine, AskedChange, lines_of, slot
 use Rattle.request_lines.specs.declared.session.Session.{Session}
 use Rattle.request_lines.specs.Session.{request_lines}
 use Rattle.request_lines.specs.SessionLaws.{HasNames, HasRecords, HasRequests, HasLines, IsSmall}
-use Rattle.text_laws.specs.WrongLine.{Checked, Makes, IsJournalLine, AreJournal}
-use Rattle.text_laws.specs.WrongParts.{IsWrongUpdate}
+use Rattle.text_laws.specs.WrongLine.{Checked, IsJournalLine, AreJournal}
+use Rattle.text_laws.specs.WrongParts.{IsWrongUpdate, Makes}
 use Rattle.replay_check.specs.declared.journal.Told.{Told}
 use Rattle.replay_check.specs.declared.journal.Journal.{Journal}
 use Rattle.replay_check.specs.declared.journal.Journal.TheVariants.{Right, Wrong}

@@ -9,7 +9,8 @@ use Rattle.request_lines.specs.declared.values.Values.{Values}
 use Rattle.request_lines.specs.Texts.{◌>>=◌}
 use Rattle.request_lines.specs.Asking.{Asking, asking_with}
 use Rattle.request_lines.specs.NamedQueries.{Parameter, parameters_read, is_name, is_url, as_it_is, values_or}
-use Rattle.request_lines.specs.Queries.{most_entries, no_values}
+use Rattle.request_lines.specs.Queries.{most_entries}
+use Rattle.request_lines.specs.QueryValues.{no_values}
 
 abbrev pub nothing_asked : Version → Asking
 nothing_asked version = record { version = version; values = no_values; names = []; cause = None }

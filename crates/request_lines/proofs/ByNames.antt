@@ -16,6 +16,7 @@ use Rattle.request_lines.specs.declared.parameter.Version.TheVariants.{V1, V2}
 use Rattle.request_lines.specs.declared.values.Values.{Values}
 use Rattle.request_lines.specs.Texts.{◌>>=◌, unescaped, is_number}
 use Rattle.request_lines.specs.Queries as q
+use Rattle.request_lines.specs.QueryValues as v
 use Rattle.request_lines.specs.NamedQueries as n
 
 -- ---- one name
@@ -317,10 +318,10 @@ values_are a b prefix delimiter start_after token marker max_keys url =
     ∙ ap (λ x. record a { prefix = b.prefix; delimiter = b.delimiter; start_after = b.start_after; token = b.token; marker = b.marker; max_keys = x }) max_keys
     ∙ ap (λ x. record b { url = x }) url
 
-asked_same : (ps : List q.Parameter) → n.values_said (map named ps) ≡ q.values_said ps
+asked_same : (ps : List q.Parameter) → n.values_said (map named ps) ≡ v.values_said ps
 unfolding q.is_max_keys is_number
 asked_same ps =
-    values_are (n.values_said (map named ps)) (q.values_said ps) (value_same Prefix n.as_it_is ps) (value_same Delimiter n.as_it_is ps) (value_same StartAfter n.as_it_is ps)
+    values_are (n.values_said (map named ps)) (v.values_said ps) (value_same Prefix n.as_it_is ps) (value_same Delimiter n.as_it_is ps) (value_same StartAfter n.as_it_is ps)
     (value_same ContinuationToken n.as_it_is ps) (value_same Marker n.as_it_is ps) (value_same MaxKeys q.most_entries ps) (value_same EncodingType n.is_url ps)
 
 -- ---- the whole query
@@ -329,11 +330,11 @@ or_cause : (found : Option Cause) (values : Values) → n.values_or found values
 or_cause None values = refl
 or_cause (Some cause) values = refl
 
-values_of_same : (version : Version) (ps : List q.Parameter) → n.values_of version (map named ps) ≡ option_map_or Err (find (q.have version ps) q.parameter_causes) (Ok (q.values_said ps))
+values_of_same : (version : Version) (ps : List q.Parameter) → n.values_of version (map named ps) ≡ option_map_or Err (find (q.have version ps) q.parameter_causes) (Ok (v.values_said ps))
 values_of_same version ps =
     ap (λ o. n.values_or o (n.values_said (map named ps))) (cause_same version ps)
     ∙ ap (n.values_or (find (q.have version ps) q.parameter_causes)) (asked_same ps)
-    ∙ or_cause (find (q.have version ps) q.parameter_causes) (q.values_said ps)
+    ∙ or_cause (find (q.have version ps) q.parameter_causes) (v.values_said ps)
 
 read_same : (pieces : List (List ℕ)) → n.parameters_read pieces ≡ (q.parameters_read pieces >>= (λ ps. Ok (map named ps)))
 unfolding n.parameters_read q.parameters_read n.parameter_read
@@ -364,11 +365,11 @@ read_same (piece ∷ pieces) = by_test (read_same pieces) (length piece == 0)
     by_test behind false = with_value behind (unescaped (after_first (λ b. b == 61) piece))
 
 -- so a query says the same
-pub query_same : (version : Version) (text : List ℕ) → q.query_read version text ≡ n.query_by_names version text
-unfolding q.query_read n.query_by_names n.pieces_of
+pub query_same : (version : Version) (text : List ℕ) → v.query_read version text ≡ n.query_by_names version text
+unfolding v.query_read n.query_by_names n.pieces_of
 query_same version text = sym (ap (λ read. read >>= n.values_of version) (read_same _) ∙ by_read (q.parameters_read _))
   where
     by_read : (read : Result (List q.Parameter) Cause)
-        → ((read >>= (λ ps. Ok (map named ps))) >>= n.values_of version) ≡ (read >>= (λ ps. option_map_or Err (find (q.have version ps) q.parameter_causes) (Ok (q.values_said ps))))
+        → ((read >>= (λ ps. Ok (map named ps))) >>= n.values_of version) ≡ (read >>= (λ ps. option_map_or Err (find (q.have version ps) q.parameter_causes) (Ok (v.values_said ps))))
     by_read (Ok ps) = values_of_same version ps
     by_read (Err cause) = refl

@@ -1,6 +1,6 @@
 -- The lines of an input of `check`, one after another, up to the line `----`.
-use Rattle.std.proofs.Common.{◌≡◌, ℕ, zero, suc, ◌+◌, ◌<◌, ◌≤◌, ◌==◌, Bool, true, false, Option, Some, None, Err, List, [], ◌∷◌, ◌++◌, length, take, drop, get_or, inl, inr, refl, sym, ap, subst, ◌∙◌, arith, append_assoc, append-nil}
-use Rattle.std.specs.List.{concat}
+use Rattle.std.proofs.Common.{◌≡◌, if◌then◌else◌, ℕ, zero, suc, ◌+◌, ◌<◌, ◌≤◌, ◌==◌, Bool, true, false, Option, Some, None, Err, List, [], ◌∷◌, ◌++◌, length, take, drop, get_or, inl, inr, refl, sym, ap, subst, ◌∙◌, arith, append_assoc, append-nil}
+use Rattle.std.specs.List.{concat, before_first, after_first, list_any, position_or_len}
 use Rattle.std.specs.Option.{option_map}
 use Rattle.std.specs.Borrow.{Bor}
 use Rattle.std.proofs.Math.Seq.{take-add}
@@ -12,7 +12,7 @@ use Rattle.request_lines.specs.declared.session_error.SessionError.{SessionError
 use Rattle.request_lines.specs.declared.session_error.SessionError.TheVariants as errors
 use Rattle.request_lines.specs.Input.{refusal_of}
 use Rattle.request_lines.specs.Refusal.{IsRefused}
-use Rattle.request_lines.specs.CheckInput.{text_lines, with_byte, is_divider, before_divider, after_divider, session_part, text_part, check_refusal}
+use Rattle.request_lines.specs.CheckInput.{text_lines, with_byte, is_divider, session_part, text_part, check_refusal}
 use Rattle.request_lines.specs.CheckAnswers.{IsCheckRefused}
 
 -- ---- the first line
@@ -64,6 +64,33 @@ joined (b ∷ text) =
 
 -- ---- the search for the line `----`
 
+-- the bytes of the lines before the first line `----`, or of all where there is none; and those of the lines after it
+abbrev before_divider : List (List ℕ) → List ℕ
+before_divider [] = []
+before_divider (line ∷ lines) = if is_divider line then [] else line ++ before_divider lines
+
+abbrev after_divider : List (List ℕ) → Option (List ℕ)
+after_divider [] = None
+after_divider (line ∷ lines) = if is_divider line then Some (concat lines) else after_divider lines
+
+before_is : (lines : List (List ℕ)) → before_divider lines ≡ concat (before_first is_divider lines)
+before_is [] = refl
+before_is (line ∷ lines) = elim (cases_Bool (is_divider line)) [
+  | inl is ↦ rw is refl
+  | inr other ↦
+      let next : 1 + position_or_len is_divider lines ≡ suc (position_or_len is_divider lines) = omega arith in
+      rw other (ap (λ (l : List ℕ). line ++ l) (before_is lines) ∙ ap (λ (k : ℕ). concat (take k (line ∷ lines))) (sym next))
+]
+
+after_is : (lines : List (List ℕ)) → after_divider lines ≡ (if list_any is_divider lines then Some (concat (after_first is_divider lines)) else None)
+after_is [] = refl
+after_is (line ∷ lines) = elim (cases_Bool (is_divider line)) [
+  | inl is ↦ rw is refl
+  | inr other ↦
+      let next : 1 + position_or_len is_divider lines + 1 ≡ suc (position_or_len is_divider lines + 1) = omega arith in
+      rw other (after_is lines ∙ ap (λ (k : ℕ). if list_any is_divider lines then Some (concat (drop k (line ∷ lines))) else None) (sym next))
+]
+
 -- none of the lines in the first bytes is `----`
 pub record HasNoneBefore (bytes : List ℕ) (at : ℕ) : Type 0 where
   pub inside : at ≤ length bytes
@@ -72,7 +99,7 @@ pub record HasNoneBefore (bytes : List ℕ) (at : ℕ) : Type 0 where
 
 pub none_yet : (bytes : List ℕ) → HasNoneBefore bytes 0
 unfolding session_part text_part
-none_yet bytes = record { inside = omega arith; session = refl; text = refl }
+none_yet bytes = record { inside = omega arith; session = before_is (text_lines bytes); text = after_is (text_lines bytes) }
 
 -- the next line has so many bytes
 pub record IsNextLine (left line : List ℕ) (n : ℕ) : Type 0 where

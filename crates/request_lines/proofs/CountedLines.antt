@@ -12,8 +12,8 @@ use Rattle.request_lines.specs.declared.session.Session.{Session}
 use Rattle.request_lines.specs.declared.session_error.InputError.{InputError}
 use Rattle.request_lines.specs.declared.session_error.SessionError.{SessionError}
 use Rattle.request_lines.specs.declared.session_error.SessionError.TheVariants as errors
-use Rattle.request_lines.specs.InputParts.{texts_of, error_at, asked_at}
-use Rattle.request_lines.specs.Input.{reading_of, begins_client, name_by, record_by}
+use Rattle.request_lines.specs.InputParts.{texts_of, error_at, asked_at, begins_client}
+use Rattle.request_lines.specs.Input.{reading_of, name_by, record_by}
 use Rattle.request_lines.specs.Counting.{none_counted, counted_with, cause_by_counts, request_by_counts}
 
 -- a line that is not empty: its number, counted from 1 over all lines, what it says or its own cause, and

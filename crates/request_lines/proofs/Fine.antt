@@ -24,7 +24,8 @@ use Rattle.request_lines.specs.Texts.{◌>>=◌, unescaped, escapes_are_whole, k
 use Rattle.request_lines.specs.ReadAnswers.{Reads}
 use Rattle.request_lines.specs.Causes.{earliest, place_of}
 use Rattle.request_lines.specs.declared.cause.Cause.TheVariants.{EmptyKey, KeyTooLong, UnknownVerb, UnknownParameter}
-use Rattle.request_lines.specs.Queries.{query_read, no_values, is_max_keys, most_keys}
+use Rattle.request_lines.specs.Queries.{is_max_keys, most_keys}
+use Rattle.request_lines.specs.QueryValues.{no_values, query_read, listing_of}
 use Rattle.request_lines.specs.NamedQueries as q
 use Rattle.std.specs.Str.Parse.{digits_value}
 use Rattle.request_lines.specs.Asking as k
@@ -32,7 +33,8 @@ use Rattle.request_lines.proofs.AskedAll.{nothing_asked, values_by}
 use Rattle.request_lines.specs.Asking.{asking_with, with_parameter, name_cause, parameter_cause, is_long_for}
 use Rattle.request_lines.specs.NamedQueries.{parameter_read, parameters_read}
 use Rattle.request_lines.proofs.QueryLaws.{query_read_by}
-use Rattle.request_lines.specs.Input.{listing_of, put_read, read_fields, verb_of, read_line, reading_of}
+use Rattle.request_lines.proofs.QueryListings.{no_query, listing_read_is}
+use Rattle.request_lines.specs.Input.{put_read, read_fields, verb_of, read_line, reading_of}
 use Rattle.request_lines.specs.Fine.{IsFineCommand}
 
 -- what is read has this property
@@ -316,8 +318,8 @@ fields_fine verbs.Client [] = tt
 fields_fine (verbs.Put when) (key ∷ size ∷ etag ∷ modified ∷ []) = put_fine when key size etag modified
 fields_fine verbs.Delete (key ∷ []) = delete_fine key
 fields_fine verbs.Head (key ∷ []) = head_fine key
-fields_fine (verbs.List version) [] = listing_fine version no_values none_fine
-fields_fine (verbs.List version) (query ∷ []) = list_fine version query
+fields_fine (verbs.List version) [] = subst IsFineReading (sym (no_query version)) (listing_fine version no_values none_fine)
+fields_fine (verbs.List version) (query ∷ []) = subst IsFineReading (sym (listing_read_is version query)) (list_fine version query)
 fields_fine verbs.Next [] = tt
 fields_fine verb fields = tt
 

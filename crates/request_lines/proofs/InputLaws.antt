@@ -18,8 +18,8 @@ use Rattle.request_lines.specs.declared.session.Asked.{Asked}
 use Rattle.request_lines.specs.declared.session.ClientPart.{ClientPart}
 use Rattle.request_lines.specs.declared.session.Session.{Session}
 use Rattle.request_lines.specs.declared.session_error.InputError.{InputError}
-use Rattle.request_lines.specs.InputParts.{texts_of, error_at}
-use Rattle.request_lines.specs.Input.{reading_of, begins_client, name_by, record_by}
+use Rattle.request_lines.specs.InputParts.{texts_of, error_at, begins_client}
+use Rattle.request_lines.specs.Input.{reading_of, name_by, record_by}
 use Rattle.request_lines.specs.Counting.{counted_with, cause_by_counts}
 use Rattle.request_lines.proofs.CountedLines.{Line, lines_from, input_lines, error_of, refusal_of, asked_of, part_of, parts_of, names_of, records_of, IsSessionOf, IsRefused}
 use Rattle.request_lines.specs.Left.{texts_left}

@@ -2,6 +2,7 @@ pub mod FirstByte
 pub mod AskedAll
 pub mod ByNames
 pub mod QueryLaws
+pub mod QueryListings
 pub mod TextLaws
 pub mod ShortNumbers
 pub mod TagBytes

@@ -9,13 +9,13 @@ use Rattle.request_lines.specs.declared.counts.Counts.{Counts}
 use Rattle.request_lines.specs.declared.session.Session.{Session}
 use Rattle.request_lines.specs.declared.session_error.SessionError.{SessionError}
 use Rattle.request_lines.specs.declared.session_error.SessionError.TheVariants as errors
-use Rattle.request_lines.specs.InputParts.{texts_of, clients_in, requests_in, puts_in}
+use Rattle.request_lines.specs.InputParts.{texts_of, clients_in, requests_in, puts_in, said, begins_client}
 use Rattle.request_lines.specs.Input.{reading_of, is_client, is_put, entries_behind, limit_cause}
 use Rattle.std.proofs.lemmas.List.{drop-map}
 use Rattle.std.proofs.lemmas.List.Sums.{sum_by-append}
 use Rattle.request_lines.specs.Counting as k
 use Rattle.request_lines.specs.Counting.{counted, counted_with}
-use Rattle.request_lines.specs.Input.{Line, said, begins_client, name_by, record_by}
+use Rattle.request_lines.specs.Input.{Line, name_by, record_by}
 use Rattle.request_lines.specs.InputParts.{error_at}
 use Rattle.request_lines.specs.Input as i
 use Rattle.request_lines.specs.InputParts as p
@@ -223,13 +223,13 @@ refusal_same bytes =
     ap (λ ls. slice_get (filter_map l.error_of ls) 0) (sym (all_counted bytes))
     ∙ ap (λ es. slice_get es 0) (chosen_same i.error_of l.error_of (i.input_lines bytes) (λ line. ap (error_at line.number) (cause_same line.before line.reading)))
 
-part_same : (lines : List Line) → l.part_of (map with_counts lines) ≡ i.part_of lines
+part_same : (lines : List Line) → l.part_of (map with_counts lines) ≡ p.part_of lines
 part_same lines =
     ap (λ asked. record { requests = asked }) (chosen_same i.asked_of l.asked_of lines (λ line. ap (p.asked_at line.number) (request_same line.before line.reading)))
 
-all_parts : (pieces : List (List Line)) → map l.part_of (map (map with_counts) pieces) ≡ map i.part_of pieces
+all_parts : (pieces : List (List Line)) → map l.part_of (map (map with_counts) pieces) ≡ map p.part_of pieces
 all_parts [] = refl
-all_parts (piece ∷ pieces) = ap (λ p. p ∷ map l.part_of (map (map with_counts) pieces)) (part_same piece) ∙ ap (λ ps. i.part_of piece ∷ ps) (all_parts pieces)
+all_parts (piece ∷ pieces) = ap (λ p. p ∷ map l.part_of (map (map with_counts) pieces)) (part_same piece) ∙ ap (λ ps. p.part_of piece ∷ ps) (all_parts pieces)
 
 abbrev begins : Line → Bool
 begins line = begins_client line.reading

@@ -11,7 +11,8 @@ use Rattle.request_lines.specs.Pieces.{piece_asked, TakesPiece}
 use Rattle.request_lines.specs.Asking.{Asking, asking_with}
 use Rattle.request_lines.proofs.AskedAll.{nothing_asked, values_by, pieces_asked}
 use Rattle.request_lines.specs.NamedQueries.{Parameter, parameter_read, parameters_read, values_or, pieces_of}
-use Rattle.request_lines.specs.Queries.{query_read, without_mark}
+use Rattle.request_lines.specs.Queries.{without_mark}
+use Rattle.request_lines.specs.QueryValues.{query_read}
 use Rattle.request_lines.proofs.QueryLaws.{query_read_by}
 use Rattle.request_lines.specs.Texts.{◌>>=◌}
 use Rattle.request_lines.specs.ReadAnswers.{Fails}

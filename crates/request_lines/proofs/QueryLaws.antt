@@ -15,7 +15,8 @@ use Rattle.request_lines.specs.Asking.{Asking, asking_with, with_name, with_para
 use Rattle.request_lines.proofs.AskedAll.{nothing_asked, values_by, given, with_all}
 use Rattle.request_lines.specs.Causes.{place_of, earliest}
 use Rattle.request_lines.specs.NamedQueries.{Parameter, place_of_name, is_name, is_same_name, is_taken, is_compared, is_unknown, is_too_long, is_list_type, is_encoding, is_fetch_owner, repeats, have, parameters_read, pieces_of, values_or, values_of, values_said, query_by_names, value_of, as_it_is, is_url}
-use Rattle.request_lines.specs.Queries.{is_max_keys, parameter_causes, no_values, query_read, most_entries}
+use Rattle.request_lines.specs.Queries.{is_max_keys, parameter_causes, most_entries}
+use Rattle.request_lines.specs.QueryValues.{no_values, query_read}
 use Rattle.request_lines.proofs.ByNames.{query_same}
 use Rattle.request_lines.specs.Texts.{◌>>=◌}
 

@@ -6,7 +6,7 @@ use Rattle.std.specs.Fmt.{decimal, digits}
 use Rattle.percent_encoding.specs.Percent.{percent_decode}
 use Rattle.request_lines.specs.declared.command.Command.TheVariants as says
 use Rattle.request_lines.specs.Texts.{unescaped, escapes_are_whole, is_number}
-use Rattle.request_lines.specs.Queries.{query_read, parameters_read, without_mark, is_max_keys}
+use Rattle.request_lines.specs.Queries.{listing_read, parameters_read, without_mark, is_max_keys}
 use Rattle.request_lines.specs.Input.{reading_of, read_line, read_fields}
 use Rattle.request_lines.specs.SampleSession.{sample_query}
 
@@ -18,7 +18,7 @@ abbrev pub list_line : ℕ → List ℕ
 list_line client = codes "LIST" ++ 32 ∷ query_text client
 
 pub list_reading : (client : ℕ) → client < 4 → reading_of (list_line client) ≡ Ok (says.List (sample_query client))
-unfolding reading_of read_line read_fields query_read without_mark parameters_read unescaped escapes_are_whole is_number is_max_keys is_utf8 percent_decode chars encode_utf8 digits
+unfolding reading_of read_line read_fields listing_read without_mark parameters_read unescaped escapes_are_whole is_number is_max_keys is_utf8 percent_decode chars encode_utf8 digits
 list_reading zero below = refl
 list_reading (suc zero) below = refl
 list_reading (suc (suc zero)) below = refl

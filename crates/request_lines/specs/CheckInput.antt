@@ -1,12 +1,8 @@
 -- The lines of a text; and the input of `check`: a session, a line that is `----`, and a written text.
-use Rattle.std.specs.Prelude.{◌≡◌, ℕ, ◌+◌, ◌-◌, ◌==◌, Bool, List, [], ◌∷◌, ◌++◌, length, take, codes, slice_index, Option, Some, None, if◌then◌else◌}
-use Rattle.std.specs.List.{concat}
-use Rattle.std.specs.Option.{option_or}
-use Rattle.std.specs.Str.{bytes_eq}
-use Rattle.std.specs.Str.Lines.{strip_carriage_return}
+use Rattle.std.specs.Prelude.{◌≡◌, ℕ, ◌+◌, ◌-◌, ◌==◌, Bool, List, [], ◌∷◌, length, take, codes, slice_index, Option, Some, None, is_some, if◌then◌else◌}
+use Rattle.std.specs.{List.concat, List.before_first, List.after_first, List.list_any, Option.option_or, Str.bytes_eq, Str.Lines.strip_carriage_return}
 use Rattle.request_lines.specs.declared.cause.Cause.TheVariants.{NoText}
-use Rattle.request_lines.specs.declared.session.Session.{Session}
-use Rattle.request_lines.specs.declared.session_error.InputError.{InputError}
+use Rattle.request_lines.specs.declared.{session.Session.Session, session_error.InputError.InputError}
 use Rattle.request_lines.specs.Input.{IsSessionOf, refusal_of}
 
 -- the byte in front of these lines: it belongs to the first of them
@@ -27,30 +23,18 @@ strip_line_feed line = if slice_index line (length line - 1) == 10 then take (le
 abbrev pub is_divider : List ℕ → Bool
 is_divider line = bytes_eq (strip_carriage_return (strip_line_feed line)) (codes "----")
 
--- the bytes of the lines before the first line `----`, or of all where there is none; and those of the lines after it
-abbrev pub before_divider : List (List ℕ) → List ℕ
-before_divider [] = []
-before_divider (line ∷ lines) = if is_divider line then [] else line ++ before_divider lines
-
-abbrev pub after_divider : List (List ℕ) → Option (List ℕ)
-after_divider [] = None
-after_divider (line ∷ lines) = if is_divider line then Some (concat lines) else after_divider lines
-
--- the part of an input that has the session, and the text after the line `----`
+-- the session is in the lines before the first line `----`, or in all if there is none; the text is in those after it
 unfoldable pub session_part : List ℕ → List ℕ
-session_part input = before_divider (text_lines input)
+session_part input = concat (before_first is_divider (text_lines input))
 
 unfoldable pub text_part : List ℕ → Option (List ℕ)
-text_part input = after_divider (text_lines input)
+text_part input = if list_any is_divider (text_lines input) then Some (concat (after_first is_divider (text_lines input))) else None
 
--- where the line `----` is missing, this is reported at the line after the last one
-abbrev pub missing_text : List ℕ → Option (List ℕ) → Option InputError
-missing_text input None = Some (record { line = length (text_lines input) + 1; cause = NoText })
-missing_text input (Some text) = None
-
--- the refusal of an input of `check`: that of its session, or else that the line `----` is missing
+-- the refusal of an input of `check`: that of its session, or else, one line after the last, that no line is `----`
 unfoldable pub check_refusal : List ℕ → Option InputError
-check_refusal input = option_or (refusal_of (session_part input)) (missing_text input (text_part input))
+check_refusal input =
+    option_or (refusal_of (session_part input))
+    (if is_some (text_part input) then None else Some (record { line = length (text_lines input) + 1; cause = NoText }))
 
 -- the session and the text of an input of `check`
 pub record IsCheckInput (input : List ℕ) (session : Session) (text : List ℕ) : Type 0 where

@@ -1,28 +1,17 @@
 -- What a line says, by cases on its verb and its fields; the session of a whole input, or its refusal.
 use Rattle.std.specs.Prelude.{◌≡◌, ℕ, ◌+◌, ◌==◌, ◌&&◌, not, nat_lt, Bool, true, false, List, [], ◌∷◌, ◌++◌, length, map, drop, Option, Some, None, Result, Ok, Err, codes, count_by, slice_get, if◌then◌else◌}
-use Rattle.std.specs.List.{slice_split, filter_map}
-use Rattle.std.specs.Option.{option_map, option_map_or}
-use Rattle.std.specs.Str.{is_utf8, bytes_eq}
-use Rattle.std.specs.Str.Lines.{strip_carriage_return}
-use Rattle.bucket_terms.specs.declared.record.Record.{Record}
-use Rattle.bucket_terms.specs.declared.request.Request.{Request}
+use Rattle.std.specs.{List.slice_split, List.filter_map, Option.option_map, Option.option_map_or, Option.option_to_list, Result.result_ok, Str.is_utf8, Str.bytes_eq, Str.Lines.strip_carriage_return}
+use Rattle.bucket_terms.specs.declared.{record.Record.Record, request.Request.Request}
 use Rattle.bucket_terms.specs.declared.request.Request.TheVariants as asks
-use Rattle.request_lines.specs.declared.cause.Cause.{Cause}
-use Rattle.request_lines.specs.declared.cause.Cause.TheVariants.{NotUtf8, UnknownVerb, WrongFields, NoClient, TooManyClients, TooManyLines, TooManyEntries}
-use Rattle.request_lines.specs.declared.command.Command.{Command}
-use Rattle.request_lines.specs.declared.command.Command.TheVariants as says
-use Rattle.request_lines.specs.declared.session.Asked.{Asked}
-use Rattle.request_lines.specs.declared.session.ClientPart.{ClientPart}
-use Rattle.request_lines.specs.declared.session.Session.{Session}
-use Rattle.request_lines.specs.declared.session_error.InputError.{InputError}
-use Rattle.request_lines.specs.declared.verb.PutWhen.{PutWhen}
-use Rattle.request_lines.specs.declared.verb.PutWhen.TheVariants.{Always, IfAbsent}
-use Rattle.request_lines.specs.declared.verb.Verb.{Verb}
-use Rattle.request_lines.specs.declared.verb.Verb.TheVariants as verbs
+use Rattle.request_lines.specs.declared.{cause.Cause.Cause, command.Command.Command, session.Asked.Asked, session.ClientPart.ClientPart}
+use Rattle.request_lines.specs.declared.{session.Session.Session, session_error.InputError.InputError, verb.PutWhen.PutWhen, verb.Verb.Verb}
 use Rattle.request_lines.specs.declared.parameter.Version.{Version}
+use Rattle.request_lines.specs.declared.cause.Cause.TheVariants.{NotUtf8, UnknownVerb, WrongFields, NoClient, TooManyClients, TooManyLines, TooManyEntries}
+use Rattle.request_lines.specs.declared.command.Command.TheVariants as says
+use Rattle.request_lines.specs.declared.verb.PutWhen.TheVariants.{Always, IfAbsent}
+use Rattle.request_lines.specs.declared.verb.Verb.TheVariants as verbs
 use Rattle.request_lines.specs.declared.parameter.Version.TheVariants.{V1, V2}
-use Rattle.request_lines.specs.declared.values.Values.{Values}
-use Rattle.request_lines.specs.Queries.{no_values, list_query, v1_query, query_read}
+use Rattle.request_lines.specs.Queries.{listing_read}
 use Rattle.request_lines.specs.Texts.{◌>>=◌, key_read, numbers_read, etag_read}
 
 -- the most bytes of an input: 64 MiB
@@ -52,19 +41,14 @@ put_read when key size etag modified = do
   tag ← etag_read etag
   Ok (says.Put when name (record { size = numbers.0; etag = tag; modified = numbers.1 }))
 
--- the listing of a version that the values of its query ask
-abbrev pub listing_of : Version → Values → Command
-listing_of V1 values = says.ListV1 (v1_query values)
-listing_of V2 values = says.List (list_query values)
-
--- a line of this verb, with these fields after it
+-- a line of this verb, with these fields after it. A listing without a query has an empty one.
 unfoldable pub read_fields : Verb → List (List ℕ) → Result Command Cause
 read_fields verbs.Client [] = Ok says.Client
 read_fields (verbs.Put when) (key ∷ size ∷ etag ∷ modified ∷ []) = put_read when key size etag modified
 read_fields verbs.Delete (key ∷ []) = key_read key >>= (λ name. Ok (says.Delete name))
 read_fields verbs.Head (key ∷ []) = key_read key >>= (λ name. Ok (says.Head name))
-read_fields (verbs.List version) [] = Ok (listing_of version no_values)
-read_fields (verbs.List version) (text ∷ []) = query_read version text >>= (λ values. Ok (listing_of version values))
+read_fields (verbs.List version) [] = listing_read version []
+read_fields (verbs.List version) (query ∷ []) = listing_read version query
 read_fields verbs.Next [] = Ok says.Next
 read_fields verb fields = Err WrongFields
 
@@ -109,16 +93,11 @@ limit_cause commands last =
 
 -- ---- the lines of an input
 
--- a line that is not empty: its number, counted from 1 over all lines, what it says or its own cause, and
--- what the lines before it say
+-- a line that is not empty: its number from 1 over all lines, what it says or its own cause, and what was said before
 pub record Line : Type 0 where
   pub number : ℕ
   pub reading : Result Command Cause
   pub before : List Command
-
-abbrev pub said : Result Command Cause → List Command
-said (Ok command) = command ∷ []
-said (Err cause) = []
 
 -- the lines that are not empty, of these texts, of which the first has this number
 unfoldable pub lines_from : ℕ → List Command → List (List ℕ) → List Line
@@ -126,7 +105,7 @@ lines_from number before [] = []
 lines_from number before (text ∷ texts) =
     if length text == 0 then lines_from (number + 1) before texts
     else record { number = number; reading = reading_of text; before = before }
-    ∷ lines_from (number + 1) (before ++ said (reading_of text)) texts
+    ∷ lines_from (number + 1) (before ++ option_to_list (result_ok (reading_of text))) texts
 
 -- the input is cut at each line feed, and one carriage return at the end of a line is dropped. What stands after the
 -- last line feed is a line too, perhaps an empty one.
@@ -148,11 +127,6 @@ unfoldable pub refusal_of : List ℕ → Option InputError
 refusal_of bytes = slice_get (filter_map error_of (input_lines bytes)) 0
 
 -- ---- the session
-
--- a line begins a client
-abbrev pub begins_client : Result Command Cause → Bool
-begins_client (Ok command) = is_client command
-begins_client (Err cause) = false
 
 -- the request of a PUT or PUTNEW line, with the place of its record
 abbrev pub put_request : PutWhen → List ℕ → ℕ → Request
@@ -180,17 +154,14 @@ abbrev pub record_by : Result Command Cause → Option Record
 record_by (Ok (says.Put when name fields)) = Some fields
 record_by reading = None
 
--- the part of a client whose lines these are
 abbrev pub asked_of : Line → Option Asked
 asked_of line = option_map (λ request. record { line = line.number; request = request }) (request_by line.before line.reading)
 
-abbrev pub part_of : List Line → ClientPart
-part_of lines = record { requests = filter_map asked_of lines }
-
--- the session is that of the input: its lines are cut at each line that begins a client, and no client has the lines
--- before the first of these
+-- the session is that of the input: each CLIENT line begins a client, which has the lines up to the next one
 pub record IsSessionOf (bytes : List ℕ) (session : Session) : Type 0 where
   pub faultless : refusal_of bytes ≡ None
-  pub clients : session.clients ≡ map part_of (drop 1 (slice_split (λ (l : Line). begins_client l.reading) (input_lines bytes)))
-  pub names : session.names ≡ filter_map (λ (l : Line). name_by l.reading) (input_lines bytes)
-  pub records : session.records ≡ filter_map (λ (l : Line). record_by l.reading) (input_lines bytes)
+  pub clients : session.clients
+      ≡ map (λ lines. record { requests = filter_map asked_of lines })
+      (drop 1 (slice_split (λ (line : Line). option_map_or is_client (result_ok line.reading) false) (input_lines bytes)))
+  pub names : session.names ≡ filter_map (λ (line : Line). name_by line.reading) (input_lines bytes)
+  pub records : session.records ≡ filter_map (λ (line : Line). record_by line.reading) (input_lines bytes)

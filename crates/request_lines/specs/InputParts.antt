@@ -1,8 +1,9 @@
 -- Helper: the headline does not rest on this file.
 -- The parts of an input by which its session is read, and the limits as numbers of their own.
-use Rattle.std.specs.Prelude.{ℕ, ◌==◌, not, List, map, drop, Option, Result, Ok, count_by}
+use Rattle.std.specs.Prelude.{ℕ, ◌==◌, not, Bool, false, List, map, drop, Option, Result, Ok, count_by}
 use Rattle.std.specs.List.{slice_split, filter_map}
-use Rattle.std.specs.Option.{option_map}
+use Rattle.std.specs.Option.{option_map, option_map_or, option_to_list}
+use Rattle.std.specs.Result.{result_ok}
 use Rattle.std.specs.Str.Lines.{strip_carriage_return}
 use Rattle.bucket_terms.specs.declared.record.Record.{Record}
 use Rattle.bucket_terms.specs.declared.request.Request.{Request}
@@ -13,8 +14,8 @@ use Rattle.request_lines.specs.declared.session.ClientPart.{ClientPart}
 use Rattle.request_lines.specs.declared.session_error.InputError.{InputError}
 use Rattle.request_lines.specs.Texts.{◌>>=◌}
 use Rattle.request_lines.specs.declared.parameter.Version.{Version}
-use Rattle.request_lines.specs.Queries.{query_read}
-use Rattle.request_lines.specs.Input.{Line, listing_of, is_client, is_put, begins_client, name_by, record_by, part_of}
+use Rattle.request_lines.specs.QueryValues.{query_read, listing_of}
+use Rattle.request_lines.specs.Input.{Line, asked_of, is_client, is_put, name_by, record_by}
 
 -- the texts of the lines: the input is cut at each line feed, and one carriage return at the end of a line is dropped
 abbrev pub texts_of : List ℕ → List (List ℕ)
@@ -59,6 +60,18 @@ error_at number cause = option_map (λ c. record { line = number; cause = c }) c
 
 abbrev pub asked_at : ℕ → Option Request → Option Asked
 asked_at number request = option_map (λ r. record { line = number; request = r }) request
+
+-- what a line says, where it can be read
+abbrev pub said : Result Command Cause → List Command
+said reading = option_to_list (result_ok reading)
+
+-- a line begins a client
+abbrev pub begins_client : Result Command Cause → Bool
+begins_client reading = option_map_or is_client (result_ok reading) false
+
+-- the part of a client whose lines these are
+abbrev pub part_of : List Line → ClientPart
+part_of lines = record { requests = filter_map asked_of lines }
 
 -- the parts of the clients
 unfoldable pub parts_of : List Line → List ClientPart

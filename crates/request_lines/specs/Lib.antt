@@ -4,6 +4,7 @@ pub mod Causes
 pub mod CauseNames
 pub mod Texts
 pub mod Queries
+pub mod QueryValues
 pub mod NamedQueries
 pub mod Counting
 pub mod Input

@@ -1,17 +1,12 @@
 -- The query of a LIST or LISTV1 line (Amazon S3 API reference, ListObjectsV2 and ListObjects: URI request parameters).
 use Rattle.std.specs.Prelude.{ℕ, ◌==◌, ◌&&◌, ◌||◌, not, nat_lt, nat_le, min, Bool, false, List, [], ◌∷◌, length, Result, Ok, Err, codes, if◌then◌else◌}
-use Rattle.std.specs.List.{slice_split, before_first, after_first, list_any, find}
-use Rattle.std.specs.Option.{option_map_or}
-use Rattle.std.specs.Str.{bytes_eq}
+use Rattle.std.specs.{List.slice_split, List.before_first, List.after_first, List.list_any, List.find, Option.option_map_or, Str.bytes_eq}
 use Rattle.std.specs.Str.Parse.{digits_value}
 use Rattle.key_names.specs.Names.{most_name_bytes}
-use Rattle.bucket_terms.specs.declared.list_query.ListQuery.{ListQuery}
-use Rattle.bucket_terms.specs.declared.v1_query.V1Query.{V1Query}
-use Rattle.request_lines.specs.declared.cause.Cause.{Cause}
+use Rattle.request_lines.specs.declared.{cause.Cause.Cause, command.Command.Command, parameter.Version.Version}
 use Rattle.request_lines.specs.declared.cause.Cause.TheVariants.{KeyTooLong, UnknownParameter, RepeatedParameter, BadListType, BadMaxKeys, BadEncoding, BadFetchOwner}
-use Rattle.request_lines.specs.declared.parameter.Version.{Version}
+use Rattle.request_lines.specs.declared.command.Command.TheVariants.{List as ListRequest, ListV1}
 use Rattle.request_lines.specs.declared.parameter.Version.TheVariants.{V1, V2}
-use Rattle.request_lines.specs.declared.values.Values.{Values}
 use Rattle.request_lines.specs.Texts.{◌>>=◌, unescaped, is_number}
 
 -- the most entries of a page
@@ -39,8 +34,7 @@ parameters_read (piece ∷ pieces) =
 abbrev pub is_one_of : List ℕ → List (List ℕ) → Bool
 is_one_of text texts = list_any (bytes_eq text) texts
 
--- the names of the parameters that a query of a version takes: one of version 2 on a LIST line, one of version 1 on a
--- LISTV1 line
+-- the names of the parameters that a version takes: version 1 is that of a LISTV1 line, version 2 that of a LIST line
 abbrev pub known : Version → List (List ℕ)
 known V1 = codes "prefix" ∷ codes "delimiter" ∷ codes "max-keys" ∷ codes "encoding-type" ∷ codes "marker" ∷ []
 known V2 = codes "prefix" ∷ codes "delimiter" ∷ codes "max-keys" ∷ codes "encoding-type" ∷ codes "start-after" ∷ codes "continuation-token" ∷ codes "list-type" ∷ codes "fetch-owner" ∷ []
@@ -88,36 +82,30 @@ value_of name ps = option_map_or (λ (p : Parameter). p.value) (find (λ (p : Pa
 abbrev pub most_entries : List ℕ → ℕ
 most_entries value = if is_max_keys value then min (digits_value 10 value) most_keys else most_keys
 
--- what these parameters say, of which no two have one name
-abbrev pub values_said : List Parameter → Values
-values_said ps = record {
+-- the listing of a version that these parameters ask for, of which no two have one name
+abbrev pub listing_said : Version → List Parameter → Command
+listing_said V1 ps = ListV1 (record {
+  prefix = value_of (codes "prefix") ps;
+  delimiter = value_of (codes "delimiter") ps;
+  marker = value_of (codes "marker") ps;
+  max_keys = most_entries (value_of (codes "max-keys") ps);
+  url = bytes_eq (value_of (codes "encoding-type") ps) (codes "url");
+})
+listing_said V2 ps = ListRequest (record {
   prefix = value_of (codes "prefix") ps;
   delimiter = value_of (codes "delimiter") ps;
   start_after = value_of (codes "start-after") ps;
   token = value_of (codes "continuation-token") ps;
-  marker = value_of (codes "marker") ps;
   max_keys = most_entries (value_of (codes "max-keys") ps);
   url = bytes_eq (value_of (codes "encoding-type") ps) (codes "url");
-}
+})
 
--- where no parameter is given
-abbrev pub no_values : Values
-no_values = record { prefix = []; delimiter = []; start_after = []; token = []; marker = []; max_keys = most_keys; url = false }
-
--- the listing of either version that the values ask
-abbrev pub list_query : Values → ListQuery
-list_query v = record { prefix = v.prefix; delimiter = v.delimiter; start_after = v.start_after; token = v.token; max_keys = v.max_keys; url = v.url }
-
-abbrev pub v1_query : Values → V1Query
-v1_query v = record { prefix = v.prefix; delimiter = v.delimiter; marker = v.marker; max_keys = v.max_keys; url = v.url }
-
--- a query, which may begin with one `?` and is cut at each `&`: what it says, or the first cause that its parameters
--- have
+-- a query, after one `?` or none, cut at each `&`: the listing that it asks for, or the first cause of its parameters
 unfoldable pub without_mark : List ℕ → List ℕ
 without_mark [] = []
 without_mark (b ∷ bytes) = if b == 63 then bytes else b ∷ bytes
 
-unfoldable pub query_read : Version → List ℕ → Result Values Cause
-query_read version query = do
+unfoldable pub listing_read : Version → List ℕ → Result Command Cause
+listing_read version query = do
   ps ← parameters_read (slice_split (λ b. b == 38) (without_mark query))
-  option_map_or Err (find (have version ps) parameter_causes) (Ok (values_said ps))
+  option_map_or Err (find (have version ps) parameter_causes) (Ok (listing_said version ps))

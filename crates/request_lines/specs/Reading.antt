@@ -14,9 +14,9 @@ use Rattle.request_lines.specs.declared.session.ClientPart.{ClientPart}
 use Rattle.request_lines.specs.declared.session_error.InputError.{InputError}
 use Rattle.request_lines.specs.declared.session_error.SessionError.{SessionError}
 use Rattle.request_lines.specs.declared.session_error.SessionError.TheVariants as errors
-use Rattle.request_lines.specs.Input.{reading_of, begins_client, name_by, record_by}
+use Rattle.request_lines.specs.Input.{reading_of, name_by, record_by}
 use Rattle.request_lines.specs.Counting.{none_counted, counted_with, cause_by_counts, request_by_counts}
-use Rattle.request_lines.specs.InputParts.{error_at, asked_at}
+use Rattle.request_lines.specs.InputParts.{error_at, asked_at, begins_client}
 
 -- what the lines so far have asked: how much, the parts of the clients that have ended, what the last client
 -- has asked, and the names and records

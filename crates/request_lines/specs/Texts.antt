@@ -1,9 +1,6 @@
 -- The texts of a line's fields and how each is read: a key, numbers, an entity tag.
 use Rattle.std.specs.Prelude.{ℕ, ◌-◌, ◌==◌, ◌&&◌, ◌||◌, not, nat_lt, nat_le, Bool, true, false, List, [], ◌∷◌, length, take, drop, slice_index, Result, Ok, Err, if◌then◌else◌}
-use Rattle.std.specs.Char.{is_ascii_alphanumeric, is_ascii_hexdigit}
-use Rattle.std.specs.List.{list_all}
-use Rattle.std.specs.Str.{is_utf8, all_ascii_digits}
-use Rattle.std.specs.Str.Parse.{digits_value}
+use Rattle.std.specs.{Char.is_ascii_alphanumeric, Char.is_ascii_hexdigit, List.list_all, Str.is_utf8, Str.all_ascii_digits, Str.Parse.digits_value}
 use Rattle.percent_encoding.specs.Percent.{percent_decode}
 use Rattle.key_names.specs.Names.{most_name_bytes}
 use Rattle.request_lines.specs.declared.cause.Cause.{Cause}

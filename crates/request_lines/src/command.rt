@@ -1,7 +1,8 @@
 // One line: what it says, or its own first cause.
 ghost use Rattle.std.specs.Prelude.{◌≡◌, [], ◌∷◌, Ok, IfOk, MatchOption};
 ghost use Rattle.request_lines.specs.declared.verb.Verb.TheVariants as verbs;
-ghost use Rattle.request_lines.specs.Input.{read_fields, read_line, reading_of, listing_of};
+ghost use Rattle.request_lines.specs.Input.{read_fields, read_line, reading_of};
+ghost use Rattle.request_lines.specs.QueryValues.{listing_of};
 ghost use Rattle.request_lines.specs.Fine.{IsFineCommand};
 ghost use Rattle.request_lines.specs.InputParts.{fields_of, list_read};
 ghost use Rattle.request_lines.specs.Left.{parts_left, IsNotOne};
@@ -164,7 +165,7 @@ fn only_field(left: Option<&str>) -> Option<&str>
     }
 }
 
-#[tactic(auto, unfolding(crate::specs::Input::read_fields))]
+#[tactic(auto, unfolding(crate::specs::Input::read_fields), using(crate::proofs::QueryListings::no_query, crate::proofs::QueryListings::listing_read_is))]
 fn list(alloc: Global, version: Version, left: Option<&str>) -> Result<Command, LineError>
     ensures { Reads result (read_fields (verbs.List version) (parts_left 32 left.entry)) }
 {

@@ -4,6 +4,7 @@ ghost use Rattle.request_lines.specs.declared.line_error.LineError.TheVariants.{
 ghost use Rattle.request_lines.specs.Asking as kept;
 ghost use Rattle.request_lines.specs.NamedQueries as spec;
 ghost use Rattle.request_lines.specs.Queries as asks;
+ghost use Rattle.request_lines.specs.QueryValues.{query_read};
 ghost use Rattle.request_lines.specs.Pieces.{asking, parameter as as_parameter, TakesPiece};
 ghost use Rattle.request_lines.specs.ReadAnswers.{Reads, ReadsAs};
 
@@ -36,7 +37,7 @@ pub(crate) struct Parameter {
 
 /// What the query of this text asks of a listing of this version.
 pub(crate) fn query_of(alloc: Global, version: Version, text: &str) -> Result<Values, LineError>
-    ensures { Reads result (asks.query_read version text.now) }
+    ensures { Reads result (query_read version text.now) }
 {
     let mut so_far = Asking {
         version,

@@ -4,6 +4,7 @@ ghost use Rattle.std.specs.Str.Parse.{digits_value};
 ghost use Rattle.request_lines.specs.Asking as kept;
 ghost use Rattle.request_lines.specs.NamedQueries as spec;
 ghost use Rattle.request_lines.specs.Queries as asks;
+ghost use Rattle.request_lines.specs.QueryValues as asked;
 ghost use Rattle.request_lines.specs.Queries.{most_keys};
 
 use crate::Cause;
@@ -29,7 +30,7 @@ pub(crate) struct Values {
 impl Values {
     /// Where no parameter is given.
     pub(crate) fn none(alloc: Global) -> Values
-        ensures { result ≡ asks.no_values }
+        ensures { result ≡ asked.no_values }
     {
         Values {
             prefix: empty(alloc),
@@ -44,7 +45,7 @@ impl Values {
 
     /// The listing of version 2 that they ask.
     pub(crate) fn list_query(self) -> ListQuery
-        ensures { result ≡ asks.list_query self }
+        ensures { result ≡ asked.list_query self }
     {
         ListQuery {
             prefix: self.prefix,
@@ -58,7 +59,7 @@ impl Values {
 
     /// The listing of version 1 that they ask.
     pub(crate) fn v1_query(self) -> V1Query
-        ensures { result ≡ asks.v1_query self }
+        ensures { result ≡ asked.v1_query self }
     {
         V1Query {
             prefix: self.prefix,

@@ -5,8 +5,7 @@ use Rattle.key_map.specs.KeyMap.{map_has, map_put, map_remove}
 use Rattle.bucket_terms.specs.declared.summary.Summary.{Summary}
 use Rattle.request_lines.specs.Sample.{sample_clients}
 
--- what a client has done: the map, whose keys are the numbers in its names, the number of entries listed to it, and
--- its updates
+-- what a client has done: the map, by the numbers in its names, how many entries were listed to it, and its updates
 pub record Done : Type 0 where
   pub pairs : List Pair
   pub listed : ℕ

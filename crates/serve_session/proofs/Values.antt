@@ -19,8 +19,8 @@ use Rattle.bucket_terms.specs.declared.request.Request.TheVariants.{Put, PutNew,
 use Rattle.bucket_terms.specs.declared.reply.Reply.{Reply}
 use Rattle.bucket_terms.specs.declared.reply.Reply.TheVariants.{Put as PutReply, Exists, Deleted, Found, Missing, Listed, ListedV1, BadToken, NoSlot}
 use Rattle.bucket_terms.specs.declared.reply.Placed.{Placed}
-use Rattle.bucket_terms.specs.Listing.{is_under, is_admitted, group_len, entry_by, entry_of, is_same_group, entries_of, page_of, plain, marker_point, v1_page}
-use Rattle.bucket_terms.specs.PageParts.{listing}
+use Rattle.bucket_terms.specs.Listing.{is_under, is_admitted, group_len, entry_of, is_same_group, entries_of, page_of, plain, marker_point, v1_page}
+use Rattle.bucket_terms.specs.PageParts.{listing, entry_by}
 use Rattle.bucket_terms.specs.PageInRange.{IsInRange}
 use Rattle.bucket_terms.specs.LegalRun.{RequestLine, Setting, Answered, AreAnswered, IsRight, IsChangeOf, IsMadeBy, answered_lines, last_listing}
 use Rattle.key_names.specs.Names.{name_at}

@@ -2,13 +2,9 @@
 use Rattle.std.specs.Prelude.{◌≡◌, ◌↔◌, ℕ, ◌≤◌, List, [], ◌∷◌, length, map, true, false, codes, Option, Some, None}
 use Rattle.key_names.specs.Names.{HoldsEachOnce}
 use Rattle.outside_io.specs.Streams.{one_more, IsReadToEnd}
-use Rattle.bucket_terms.specs.declared.reply.Placed.{Placed}
-use Rattle.bucket_terms.specs.declared.summary.Summary.{Summary}
+use Rattle.bucket_terms.specs.declared.{reply.Placed.Placed, summary.Summary.Summary}
 use Rattle.bucket_terms.specs.LegalRun.{RequestLine, Run, IsLegal, slots_under}
-use Rattle.request_lines.specs.declared.session.Asked.{Asked}
-use Rattle.request_lines.specs.declared.session.ClientPart.{ClientPart}
-use Rattle.request_lines.specs.declared.session.Session.{Session}
-use Rattle.request_lines.specs.declared.session_error.InputError.{InputError}
+use Rattle.request_lines.specs.declared.{session.Asked.Asked, session.ClientPart.ClientPart, session.Session.Session, session_error.InputError.InputError}
 use Rattle.request_lines.specs.Input.{IsSessionOf, most_input_bytes}
 use Rattle.request_lines.specs.CheckInput.{IsCheckInput, text_lines}
 use Rattle.request_lines.specs.Sample.{sample_text}
@@ -33,8 +29,7 @@ pub record HoldsOfDirectory (session : Session) (P : List (List ℕ) → Type 0)
   pub names : HoldsEachOnce session.names dir
   pub holds : P dir
 
--- this is true of one legal run of the session, and of its text. Each client has the node slots that are named, or that
--- its lines ask for.
+-- this is true of a legal run of the session and its text, with the node slots named or those that its lines ask for
 pub record HoldsOfRun (named : Option ℕ) (dir : List (List ℕ)) (session : Session) (P : Run → List ℕ → Type 0) : Type 0 where
   pub run : Run
   pub legal : IsLegal dir (client_lines session.clients) (slots_under named (client_lines session.clients)) run
@@ -58,16 +53,12 @@ pub record HoldsOfSample (requests : ℕ) (P : Run → Type 0) : Type 0 where
 abbrev pub IsRunOf : (old new : ℕ) → List (List Placed) → Run → Type 0
 IsRunOf old new replied run = (new ≡ one_more old) × (run.replies ≡ replied)
 
--- the verdict on a text: it is legal exactly if it is that of a legal run, and a line is wrong exactly if it is
--- the first wrong one
+-- the verdict on a text: legal exactly if it is that of a legal run, and wrong in a line exactly if that is the first
 pub record IsVerdictOn (named : Option ℕ) (dir : List (List ℕ)) (session : Session) (text : List ℕ) (verdict : Verdict) : Type 0 where
   pub legal : (verdict ≡ Legal) ↔ HoldsOfRun named dir session (λ run written. text ≡ written)
-  pub wrong : (line : ℕ) → (verdict ≡ Wrong line) ↔ IsWrongLine (record {
-    dir = dir;
-    records = session.records;
-    parts = client_lines session.clients;
-    slots = slots_under named (client_lines session.clients);
-  }) (text_lines text) line
+  pub wrong : (line : ℕ) → (verdict ≡ Wrong line) ↔ IsWrongLine
+      (record { dir = dir; records = session.records; parts = client_lines session.clients; slots = slots_under named (client_lines session.clients) })
+      (text_lines text) line
 
 -- an input was read, and this is the verdict on the text that stands after its session
 pub record HasVerdict (named : Option ℕ) (before after : Option (List ℕ)) (verdict : Verdict) : Type 0 where

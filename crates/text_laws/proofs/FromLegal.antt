@@ -10,8 +10,8 @@ use Rattle.request_lines.specs.SessionLaws.{Rise}
 use Rattle.answer_text.specs.Lines.{line_of, journal_data}
 use Rattle.answer_text.specs.Shown.{last_data}
 use Rattle.request_lines.specs.CheckInput.{text_lines}
-use Rattle.text_laws.specs.WrongLine.{Checked, Makes, IsJournalLine, AreJournal, AreReplies, setting, requests_of, journal_texts, last_text}
-use Rattle.text_laws.specs.WrongParts.{AreAllRight}
+use Rattle.text_laws.specs.WrongLine.{Checked, IsJournalLine, AreJournal, AreReplies, setting, requests_of, journal_texts}
+use Rattle.text_laws.specs.WrongParts.{AreAllRight, Makes, last_text}
 use Rattle.text_laws.specs.TextLaws.{IsLegalText}
 use Rattle.text_laws.proofs.OneUpdate.{one_place}
 use Rattle.text_laws.proofs.Lined.{reply_list, reply_lists, journal_list, run_cut, lists_length, list_of_client}
@@ -79,7 +79,7 @@ module _ (c : Checked) (run : Run) (legal : IsLegal c.dir c.parts c.slots run) (
       let within = asked_within lines ps in
       let inside = made.2 in
       let a = made.1 in
-      (made.0, a.asked, omega arith, sym (asked_at lines ps made.0 a inside) ∙ ap (λ (x : Answered). x.asked) made.3, record { line = made.4.line; change = made.4.change })
+      (made.0, a.asked, omega arith, sym (asked_at lines ps made.0 a inside) ∙ ap (λ (x : Answered). x.asked) made.3, (made.4.line, made.4.change))
 
   journal_right : (earlier rest : List Update) (place : ℕ) → us ≡ earlier ++ rest → place ≡ length earlier + 1 → AreJournal c earlier (journal_list c.dir c.records place rest) rest
   journal_right earlier [] place is at = tt
@@ -99,7 +99,7 @@ module _ (c : Checked) (run : Run) (legal : IsLegal c.dir c.parts c.slots run) (
             ap (λ (l : List Update). slice_get l k) is
             ∙ slice_get_read (earlier ++ u ∷ rest) (length (earlier ++ u ∷ rest)) k v refl (omega arith)
             (sym (get_or_append_left earlier (u ∷ rest) v k below ∙ get_or_default earlier k v d below)) in
-            let same = one_made k (length earlier) v u there here both.client both.line in
+            let same = one_made k (length earlier) v u there here both.0 both.1 in
             omega arith;
         text_is = ap (λ (n : ℕ). line_of (journal_data c.dir n u)) at;
       } in

@@ -10,7 +10,8 @@ use Rattle.bucket_terms.specs.declared.request.Request.TheVariants.{Put, PutNew,
 use Rattle.bucket_terms.specs.LegalRun.{RequestLine, IsChangeOf, lines_of}
 use Rattle.request_lines.specs.SessionLaws.{Rise}
 use Rattle.sample_laws.proofs.Ranks.{rank_of-is}
-use Rattle.text_laws.specs.WrongLine.{Checked, Makes, IsJournalLine}
+use Rattle.text_laws.specs.WrongLine.{Checked, IsJournalLine}
+use Rattle.text_laws.specs.WrongParts.{Makes}
 use Rattle.text_laws.specs.TextLaws.{IsCheckable}
 use Rattle.text_laws.proofs.Spelled.{update_told}
 
@@ -57,7 +58,7 @@ module _ (c : Checked) (texts : List (List ℕ)) (fine : IsCheckable c texts) wh
       let l = made.1 in
       let there : (get_or (lines_of c.parts u.client) made.0 l).line < 2 ^ 64 = fine.numbers u.client [] inside made.0 l made.2 in
       let is : (get_or (lines_of c.parts u.client) made.0 l).line ≡ l.line = ap (λ (m : RequestLine). m.line) made.3 in
-      let line : l.line ≡ u.line = made.4.line in
+      let line : l.line ≡ u.line = made.4.0 in
       omega arith
 
   pub one_update : (earlier : List Update) (text : List ℕ) (u v : Update) → length earlier + 1 < 2 ^ 64 → IsJournalLine c earlier text u → IsJournalLine c earlier text v → u ≡ v
@@ -69,9 +70,9 @@ module _ (c : Checked) (texts : List (List ℕ)) (fine : IsCheckable c texts) wh
       let made : Any (Makes c.dir v) (lines_of c.parts u.client) = subst (λ (n : ℕ). Any (Makes c.dir v) (lines_of c.parts n)) (sym told.0) k.made in
       let l = h.made.1 in
       let m = made.1 in
-      let same : l.line ≡ m.line = h.made.4.line ∙ told.1 ∙ sym made.4.line in
+      let same : l.line ≡ m.line = h.made.4.0 ∙ told.1 ∙ sym made.4.0 in
       let lines : l ≡ m = one_line (lines_of c.parts u.client) h.made.0 made.0 l m (fine.rising u.client [] in_u) h.made.2 made.2 h.made.3 made.3 same in
-      let change = one_change c.dir u v l.request fine.names h.made.4.change (subst (λ (x : RequestLine). IsChangeOf c.dir v x.request) (sym lines) made.4.change) in
+      let change = one_change c.dir u v l.request fine.names h.made.4.1 (subst (λ (x : RequestLine). IsChangeOf c.dir v x.request) (sym lines) made.4.1) in
       ap (λ (n : ℕ). record { client = n; line = u.line; key = u.key; change = u.change }) told.0
       ∙ ap (λ (n : ℕ). record { client = v.client; line = n; key = u.key; change = u.change }) told.1
       ∙ ap (λ (n : ℕ). record { client = v.client; line = v.line; key = n; change = u.change }) change.0

@@ -84,9 +84,9 @@ module _ (c : Checked) (texts : List (List ℕ)) where
   -- ---- the laws
 
   one_wrong : (m n : ℕ) → IsWrongLine c texts m → IsWrongLine c texts n → m ≡ n
-  one_wrong m n (inl h) (inl k) = h.line_is ∙ sym k.line_is
-  one_wrong m n (inl h) (inr k) = let s = h.short in let l = k.long in absurd (omega arith)
-  one_wrong m n (inr h) (inl k) = let s = k.short in let l = h.long in absurd (omega arith)
+  one_wrong m n (inl h) (inl k) = h.1 ∙ sym k.1
+  one_wrong m n (inl h) (inr k) = let s = h.0 in let l = k.long in absurd (omega arith)
+  one_wrong m n (inr h) (inl k) = let s = k.0 in let l = h.long in absurd (omega arith)
   one_wrong m n (inr h) (inr k) =
       elim (cases_lt h.before k.before) [
         | inl less ↦ absurd (h.wrong (fewer (h.before + 1) k.before (omega arith) k.right))
@@ -100,7 +100,7 @@ module _ (c : Checked) (texts : List (List ℕ)) where
       ]
 
   none_wrong : (n : ℕ) → IsRightText c texts → ¬ (IsWrongLine c texts n)
-  none_wrong n right (inl k) = let s = k.short in let l = right.long in absurd (omega arith)
+  none_wrong n right (inl k) = let s = k.0 in let l = right.long in absurd (omega arith)
   none_wrong n right (inr k) = let inside = k.inside in k.wrong (fewer (k.before + 1) (length texts) (omega arith) right.right)
 
   -- ---- all lines are right

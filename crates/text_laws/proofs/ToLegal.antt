@@ -9,8 +9,8 @@ use Rattle.bucket_terms.specs.LegalRun.{RequestLine, Run, Answered, IsLegal, IsM
 use Rattle.answer_text.specs.Lines.{line_of, journal_data, session_text}
 use Rattle.answer_text.specs.Shown.{last_data}
 use Rattle.request_lines.specs.CheckInput.{text_lines}
-use Rattle.text_laws.specs.WrongLine.{Checked, Makes, AreJournal, AreReplies, setting, requests_of, journal_texts, last_text, reply_texts}
-use Rattle.text_laws.specs.WrongParts.{AreAllRight}
+use Rattle.text_laws.specs.WrongLine.{Checked, AreJournal, AreReplies, setting, requests_of, journal_texts, reply_texts}
+use Rattle.text_laws.specs.WrongParts.{AreAllRight, Makes, last_text}
 use Rattle.text_laws.specs.TextLaws.{IsLegalText}
 use Rattle.text_laws.proofs.Lined.{joined, joined_lines, reply_text, reply_list, reply_lists, journal_list, run_lines, run_cut, lists_of_slices}
 
@@ -100,7 +100,7 @@ module _ (c : Checked) (texts : List (List ℕ)) (right : AreAllRight c texts) w
         let m = asked.made in (
           asked.client,
           made_by c right.updates u.client i u m.0 m.1 [] (lines_of c.parts u.client) (reply_texts c texts u.client) (get_or right.replies u.client [])
-              at refl m.4.line m.4.change m.2 m.3 (right.replied.each u.client asked.client),
+              at refl m.4.0 m.4.1 m.2 m.3 (right.replied.each u.client asked.client),
         );
   }
 

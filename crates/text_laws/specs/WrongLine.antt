@@ -2,8 +2,7 @@
 -- journal, line by line; then the last line; then the reply lines. The first one that is not right is the wrong line.
 use Rattle.std.specs.Prelude.{◌≡◌, ℕ, ◌+◌, ◌-◌, ◌<◌, ◌≤◌, ◌==◌, ◌⊎◌, nat_lt, if◌then◌else◌, List, [], ◌∷◌, ◌++◌, length, take, drop, All, Any, Some, slice_get, slice_index_or}
 use Rattle.key_map.specs.declared.update.Update.{Update}
-use Rattle.bucket_terms.specs.declared.record.Record.{Record}
-use Rattle.bucket_terms.specs.declared.reply.Placed.{Placed}
+use Rattle.bucket_terms.specs.declared.{record.Record.Record, reply.Placed.Placed}
 use Rattle.bucket_terms.specs.LegalRun.{RequestLine, Answered, Setting, IsOf, IsAnswered, IsChangeOf, lines_of}
 use Rattle.answer_text.specs.Lines.{line_of, journal_data, reply_data, counting_line}
 
@@ -21,23 +20,13 @@ requests_of (lines ∷ parts) = length lines + requests_of parts
 
 -- ---- the journal
 
--- the request line is that of the update, and asks for it
-pub record Makes (dir : List (List ℕ)) (update : Update) (asked : RequestLine) : Type 0 where
-  pub line : asked.line ≡ update.line
-  pub change : IsChangeOf dir update asked.request
-
--- both updates are of the same request line
-pub record AreOfOneLine (update other : Update) : Type 0 where
-  pub client : update.client ≡ other.client
-  pub line : update.line ≡ other.line
-
 -- given the updates of the journal lines before it, this text is the journal line of the update: some PUT, PUTNEW or
 -- DELETE line of the session asks for it; no earlier journal line is of that request; and the text is the line of the
 -- update at the next place
 pub record IsJournalLine (checked : Checked) (earlier : List Update) (text : List ℕ) (update : Update) : Type 0 where
   pub client : update.client < length checked.parts
-  pub made : Any (Makes checked.dir update) (lines_of checked.parts update.client)
-  pub first : All (λ other. ¬ (AreOfOneLine other update)) earlier
+  pub made : Any (λ asked. (asked.line ≡ update.line) × IsChangeOf checked.dir update asked.request) (lines_of checked.parts update.client)
+  pub first : All (λ other. ¬ ((other.client ≡ update.client) × (other.line ≡ update.line))) earlier
   pub text_is : text ≡ line_of (journal_data checked.dir (length earlier + 1) update)
 
 -- given the earlier updates, these texts are the journal lines of these updates
@@ -77,12 +66,9 @@ first_reply checked client = requests_of (take client checked.parts)
 abbrev pub reply_texts : Checked → List (List ℕ) → ℕ → List (List ℕ)
 reply_texts checked texts client = take (length (lines_of checked.parts client)) (drop (first_reply checked client) texts)
 
--- the lines of a text after its reply lines, without the last one; and the last one
+-- the lines of a text after its reply lines, without the last one
 abbrev pub journal_texts : Checked → List (List ℕ) → List (List ℕ)
 journal_texts checked texts = take (length texts - requests_of checked.parts - 1) (drop (requests_of checked.parts) texts)
-
-abbrev pub last_text : List (List ℕ) → List ℕ
-last_text texts = slice_index_or texts (length texts - 1) []
 
 -- the first `count` of the client's reply lines are right, or all if there are fewer
 abbrev pub FirstReplies : Checked → List Update → List (List ℕ) → (client count : ℕ) → Type 0
@@ -93,22 +79,16 @@ FirstReplies checked updates texts client count =
 pub record AreRight (checked : Checked) (texts : List (List ℕ)) (count : ℕ) : Type 0 where
   pub updates : List Update
   pub journal : AreJournal checked [] (take count (journal_texts checked texts)) updates
-  pub last : length (journal_texts checked texts) < count → last_text texts ≡ counting_line (length updates)
+  pub last : length (journal_texts checked texts) < count → slice_index_or texts (length texts - 1) [] ≡ counting_line (length updates)
   pub replied : (client : ℕ) → client < length checked.parts
       → FirstReplies checked updates texts client (count - length (journal_texts checked texts) - 1 - first_reply checked client)
 
--- the number, from 1, of the line that is looked at after `count` others: one of the journal, the last one, or a reply
--- line
+-- the number, from 1, of the line that is looked at after `count` others: in the journal, the last one, or a reply
 abbrev pub looked_at : Checked → List (List ℕ) → ℕ → ℕ
 looked_at checked texts count =
     if nat_lt count (length (journal_texts checked texts)) then requests_of checked.parts + count + 1
     else if count == length (journal_texts checked texts) then length texts
     else count - length (journal_texts checked texts)
-
--- the text has too few lines, one for each request and one more, and the first line that it lacks is the wrong one
-pub record IsShort (checked : Checked) (texts : List (List ℕ)) (line : ℕ) : Type 0 where
-  pub short : length texts ≤ requests_of checked.parts
-  pub line_is : line ≡ length texts + 1
 
 -- the first lines that are looked at are right, and the next one is not
 pub record IsNotRight (checked : Checked) (texts : List (List ℕ)) (line : ℕ) : Type 0 where
@@ -119,6 +99,8 @@ pub record IsNotRight (checked : Checked) (texts : List (List ℕ)) (line : ℕ)
   pub wrong : ¬ (AreRight checked texts (before + 1))
   pub line_is : line ≡ looked_at checked texts before
 
--- the line, counted from 1, is the first wrong one of a text with these lines
+-- the line, counted from 1, is the first wrong one of a text with these lines. A text wants a line for each request and
+-- one more; where it has fewer, the first one that it lacks is the wrong one.
 abbrev pub IsWrongLine : Checked → List (List ℕ) → ℕ → Type 0
-IsWrongLine checked texts line = IsShort checked texts line ⊎ IsNotRight checked texts line
+IsWrongLine checked texts line =
+    ((length texts ≤ requests_of checked.parts) × (line ≡ length texts + 1)) ⊎ IsNotRight checked texts line

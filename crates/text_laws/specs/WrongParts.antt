@@ -1,11 +1,27 @@
 -- Helper: the headline does not rest on this file.
 -- In which part of a text its first wrong line stands.
-use Rattle.std.specs.Prelude.{◌≡◌, ℕ, ◌+◌, ◌<◌, ◌⊎◌, List, [], length, take, Some, slice_get, slice_index_or}
+use Rattle.std.specs.Prelude.{◌≡◌, ℕ, ◌+◌, ◌-◌, ◌<◌, ◌≤◌, ◌⊎◌, List, [], length, take, Some, slice_get, slice_index_or}
 use Rattle.key_map.specs.declared.update.Update.{Update}
 use Rattle.bucket_terms.specs.declared.reply.Placed.{Placed}
-use Rattle.bucket_terms.specs.LegalRun.{RequestLine, answered_lines, lines_of}
+use Rattle.bucket_terms.specs.LegalRun.{RequestLine, IsChangeOf, answered_lines, lines_of}
 use Rattle.answer_text.specs.Lines.{counting_line}
-use Rattle.text_laws.specs.WrongLine.{Checked, IsJournalLine, AreJournal, IsReplyLine, AreReplies, IsShort, requests_of, first_reply, reply_texts, journal_texts, last_text}
+use Rattle.text_laws.specs.WrongLine.{Checked, IsJournalLine, AreJournal, IsReplyLine, AreReplies, requests_of, first_reply, reply_texts, journal_texts}
+
+-- the request line is that of the update, and asks for it
+abbrev pub Makes : List (List ℕ) → Update → RequestLine → Type 0
+Makes dir update asked = (asked.line ≡ update.line) × IsChangeOf dir update asked.request
+
+-- both updates are of the same request line
+abbrev pub AreOfOneLine : Update → Update → Type 0
+AreOfOneLine update other = (update.client ≡ other.client) × (update.line ≡ other.line)
+
+-- the text has too few lines, and the line is the first that it lacks
+abbrev pub IsShort : Checked → List (List ℕ) → ℕ → Type 0
+IsShort c texts line = (length texts ≤ requests_of c.parts) × (line ≡ length texts + 1)
+
+-- the last line of a text
+abbrev pub last_text : List (List ℕ) → List ℕ
+last_text texts = slice_index_or texts (length texts - 1) []
 
 abbrev pub text_at : List (List ℕ) → ℕ → List ℕ
 text_at texts place = slice_index_or texts place []

@@ -1,6 +1,6 @@
 use Rattle.std.proofs.Common.{sym, ap, arith}
 use Rattle.key_names.specs.Names.{name_at}
-use Rattle.bucket_terms.specs.Listing.{entry_by}
+use Rattle.bucket_terms.specs.PageParts.{entry_by}
 use Rattle.page_rules.proofs.FirstEnd.{no_group-without}
 use Rattle.page_rules.proofs.rules.key_of.Goals as goal
 

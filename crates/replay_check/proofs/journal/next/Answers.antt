@@ -28,7 +28,7 @@ pub tells-requires : goal.tells-requires
 tells-requires c =
     let k = checked c.args.session.now c.args.dir.now None in
     let told : IsTold k c.in-Some.told = c.in-Some.ensures.sound k (record { dir_is = refl; records_is = refl; parts_is = refl }) in
-    key_below c.args.dir.now c.in-Some.told.update told.asked.request told.makes.change
+    key_below c.args.dir.now c.in-Some.told.update told.asked.request told.makes.1
 
 pub returns-then-branch : goal.returns-then-branch
 returns-then-branch c = λ k of.

@@ -63,7 +63,7 @@ loop-line-preserved c =
     let is : IsTold k told = next.0 in
     let own : AreOwn k.parts (us ++ u ∷ []) (set tables u.client (set (get_or tables u.client []) told.request (Some (length us + 1)))) =
     entered k.parts us tables c.loop-line.invariant.own (λ client a b l m first second same. one_number c.args.session.now.clients c.requires.lines.rising client a b l m first second same)
-    u u.client told.request is.asked is.client is.asked_is refl (sym is.makes.line) in
+    u u.client told.request is.asked is.client is.asked_is refl (sym is.makes.0) in
     let tables_is : c.enter.new.tables.items ≡ set tables u.client (set (get_or tables u.client []) told.request (Some (length us + 1))) =
     c.enter.ensures ∙ ap (λ (n : ℕ). set tables u.client (set (get_or tables u.client []) told.request (Some n))) place in
     record {

@@ -51,8 +51,5 @@ returns c =
       line_is = sym c.from.ensures ∙ omega (arith, c.if-from-line.false);
       asked = request_line asked;
       asked_is = line_there c.as_slice.result.now c.args.part.now.requests place asked c.as_slice.ensures c.in_ok-asked.ensures.lookup.3;
-      makes = record {
-        line = refl;
-        change = subst (λ (o : Option AskedChange). MatchOption o ⊥ (λ (a : AskedChange). IsRank c.args.dir.now a.name c.rank_of-key.result × (c.in_ok-name.change ≡ a.change))) c.in_ok-name.ensures (c.rank_of-key.ensures, refl);
-      };
+      makes = (refl, subst (λ (o : Option AskedChange). MatchOption o ⊥ (λ (a : AskedChange). IsRank c.args.dir.now a.name c.rank_of-key.result × (c.in_ok-name.change ≡ a.change))) c.in_ok-name.ensures (c.rank_of-key.ensures, refl));
     }

@@ -3,7 +3,7 @@ use Rattle.std.specs.List.{slice_get}
 use Rattle.std.proofs.lemmas.Option.{same_Some, none-some}
 use Rattle.bucket_terms.specs.LegalRun.{RequestLine, lines_of}
 use Rattle.request_lines.specs.Session.{request_lines}
-use Rattle.text_laws.specs.WrongLine.{Makes}
+use Rattle.text_laws.specs.WrongParts.{Makes}
 use Rattle.replay_check.proofs.ClientLines.{told_is}
 use Rattle.replay_check.proofs.JournalTexts.{journal_begins, journal_ends}
 use Rattle.replay_check.proofs.SessionLines.{found_there, askable_lines, rising_lines, lines_of_part, client_count, small_client, small_line}

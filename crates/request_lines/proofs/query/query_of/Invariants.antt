@@ -2,7 +2,7 @@ use Rattle.std.proofs.Common.{◌≡◌}
 use Rattle.request_lines.specs.Left.{parts_left, size_left}
 use Rattle.request_lines.specs.Pieces.{asking}
 use Rattle.request_lines.proofs.AskedAll.{pieces_asked}
-use Rattle.request_lines.specs.Queries.{query_read}
+use Rattle.request_lines.specs.QueryValues.{query_read}
 use Rattle.request_lines.proofs.query.query_of.Given as goal
 
 abbrev pub invariant-loop-left : goal.invariant-loop-left
