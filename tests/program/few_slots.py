@@ -11,6 +11,8 @@ Each text is checked to be that of a legal run, by legal_model.py. Ended with st
 - clients that put and delete two keys of their own each, 10,000 lines in no fixed order, are refused more often than once
   in 500 lines, or one of them in its last tenth: four of three, four and eight slots, alone and beside clients that list
   and then end, and 32 of four slots;
+- a client that puts four names again and again, next to one that deletes them all the while, with a pool of eight slots
+  each, is refused more often than once in 500 puts;
 - 32 clients of 200,000 puts in all, with 8 slots each, take more memory than with ample slots, or more than twice as much
   as for as many lines that only look.
 How often clients are refused that put and delete the same key depends on the schedule, and is only reported.
@@ -28,7 +30,7 @@ from pathlib import Path
 
 sys.path.insert(0, str(Path(__file__).resolve().parent.parent / "models"))
 from legal_model import fault_of, rule_of
-from running import make_ready, words_of
+from running import make_ready, text_of, words_of
 
 REFUSED = '"Status":503}'
 PUT_AND_DELETE = "PUT a 1 e1 1\nDELETE a\n" * 10_000
@@ -138,6 +140,22 @@ def try_own_keys(program, runs):
         expect("clients refused in their last tenth", late, late == 0)
 
 
+def try_pair(program, runs):
+    """Eight slots for keys each suffice for four names, so only slots for versions can run out."""
+    look, names = "LIST max-keys=20\n", ["w%d" % at for at in range(4)]
+    putting = "".join("PUT %s 1 e1 1\n" % names[at % 4] + look * 10 for at in range(4_000))
+    deleting = ("".join("DELETE %s\n" % name for name in names) + look) * 25_000
+    session, refusals = clients(putting, deleting), []
+    for _ in range(runs):
+        text = text_of(program, session, 60, 8, "--pool")
+        fault = fault_of(session, text, rule_of(8))
+        if fault:
+            sys.exit("no legal run: " + fault)
+        refusals.append(text.count(REFUSED))
+    what = "four names put 4,000 times next to a client that deletes them, with a pool of eight slots each, refused"
+    expect(what, refusals, 500 * sum(refusals) < runs * 4_000)
+
+
 def try_memory(program):
     lines = "".join("PUT k%d 1 e1 1\n" % (at % 7) for at in range(200_000 // 32))
     few, ample = (run(program, clients(*[lines] * 32), slots)[2] for slots in (8, None))
@@ -156,6 +174,7 @@ def main():
     try_memory(options.program)
     try_one_key(options.program, options.runs)
     try_own_keys(options.program, options.runs)
+    try_pair(options.program, options.runs)
     try_replacing(options.program, options.runs)
 
 

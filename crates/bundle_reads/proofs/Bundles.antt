@@ -23,7 +23,7 @@ use Rattle.core_laws.specs.Found.{LeadsTo, ReadsTree}
 use Rattle.core_laws.specs.ViewNeeds.{event_at, IsAtEntry, IsInReach, MayReadHead, MayReadNumber, MayReadChild, MayReadNext}
 use Rattle.core_laws.proofs.Alone.{nothing}
 use Rattle.core_laws.proofs.Falls.{falls_law}
-use Rattle.core_laws.proofs.ViewTests.{word_named}
+use Rattle.index_words.proofs.Store.{word_named}
 use Rattle.table_rule.specs.Running.{Happened, table}
 use Rattle.table_rule.proofs.Happens.{happened_word}
 use Rattle.table_rule.proofs.Lists.{item_at}

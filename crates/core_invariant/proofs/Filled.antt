@@ -1,13 +1,12 @@
 -- What a seat has filled stays if a store is to a word other than those of its own slots.
-use Rattle.std.proofs.Common.{◌≡◌, ℕ, ◌<◌, cond, List, [], ◌∷◌, Bool, true, false, eqb, ◌&&◌, not, refl, ap, ◌∙◌, subst, inl, inr}
-use Rattle.std.proofs.lemmas.Bool.{eq-eqb, ne_eqb}
+use Rattle.std.proofs.Common.{◌≡◌, ℕ, ◌<◌, cond, List, [], ◌∷◌, Bool, true, false, ◌&&◌, not, refl, ap, ◌∙◌, subst, inl, inr}
+use Rattle.std.proofs.lemmas.Bool.{ne_eqb}
 use Rattle.index_words.specs.declared.view.slots.Slots.{Slots}
 use Rattle.index_words.specs.declared.view.reading.Filled.{Filled}
 use Rattle.index_words.specs.declared.view.update.Updating.{Updating}
 use Rattle.index_words.specs.declared.word.Field.{Field}
-use Rattle.index_words.specs.declared.word.Field.TheVariants.{Lock, Head, Link, Tag}
+use Rattle.index_words.specs.declared.word.Field.TheVariants.{Lock}
 use Rattle.index_words.specs.declared.word.Part.{Part}
-use Rattle.index_words.specs.declared.word.Part.TheVariants.{Child}
 use Rattle.index_words.specs.declared.word.Word.{Word}
 use Rattle.index_words.specs.declared.word.Word.TheVariants.{Stamp, Section, Announced, Node, Entry}
 use Rattle.index_words.specs.Words.{Memory, written, same_field, same_part, same_word}
@@ -15,7 +14,6 @@ use Rattle.key_map.specs.Lists.{count, Every}
 use Rattle.core_events.specs.FillMoves.{filled_other}
 use Rattle.core_invariant.specs.FilledRule.{IsOwnSlotWord, FilledRight}
 use Rattle.core_invariant.proofs.Frames.{every_map}
-use Rattle.core_invariant.proofs.Sides.{same_side-refl}
 
 and_false : (b : Bool) → (b && false) ≡ false
 and_false true = refl
@@ -79,28 +77,6 @@ module _ (m : Memory) (free : Slots) (u : Updating) where
         | inr yet ↦ unpending (subst (λ y. 0 < count y u.pending) same yet.1)
       ])
   entry_apart p e x apart unpending _ own = absurd own
-
--- a word is the same as itself
-field-refl : (f : Field) → same_field f f ≡ true
-field-refl (Head s) = same_side-refl s
-field-refl (Link s) = same_side-refl s
-field-refl (Tag s) = same_side-refl s
-field-refl _ = refl
-
-part-refl : (p : Part) → same_part p p ≡ true
-part-refl Child = refl
-part-refl _ = refl
-
-both : (a b : Bool) → a ≡ true → b ≡ true → (a && b) ≡ true
-both true true p q = refl
-both _ _ p q = cc
-
-pub word-refl : (w : Word) → same_word w w ≡ true
-word-refl Stamp = refl
-word-refl (Section i) = eq-eqb i i refl
-word-refl (Announced i) = eq-eqb i i refl
-word-refl (Node f k) = both (same_field f f) (eqb k k) (field-refl f) (eq-eqb k k refl)
-word-refl (Entry p e) = both (same_part p p) (eqb e e) (part-refl p) (eq-eqb e e refl)
 
 -- none of these words is the one
 abbrev pub IsNotAmong : Word → List Filled → Type 0

@@ -6,9 +6,8 @@ use Rattle.index_words.specs.declared.view.View.{View}
 use Rattle.index_words.specs.declared.view.reading.Place.{Place}
 use Rattle.index_words.specs.declared.view.reading.Place.TheVariants.{Entry as AtEntry}
 use Rattle.index_words.specs.declared.word.Field.TheVariants.{Head, Link, Tag}
-use Rattle.index_words.specs.declared.word.Part.TheVariants.{Stamp as Number}
 use Rattle.index_words.specs.declared.word.Word.{Word}
-use Rattle.index_words.specs.declared.word.Word.TheVariants.{Stamp, Section, Announced, Node, Entry}
+use Rattle.index_words.specs.declared.word.Word.TheVariants.{Section, Announced, Node, Entry}
 use Rattle.index_words.specs.Words.{Memory}
 use Rattle.index_words.specs.Views.{no_slots, no_looks}
 use Rattle.core_grace.specs.Batches.{is_empty, batch_taken, batch_freed, all_passed, settled, looked, looked_at}
@@ -20,7 +19,7 @@ use Rattle.core_events.specs.Waits.{has_no_lock, looked_waiting}
 use Rattle.core_events.specs.FillMoves.{filled_with, with_filled, known_before, used_view}
 use Rattle.core_events.specs.LoadMoves.{next_at}
 use Rattle.core_events.specs.LockMoves.{locked_view, met_lock}
-use Rattle.core_events.specs.Steps.{view_after, look_from, head_from, ts_from, ptr_from, next_from, prepared_from, raised_from, finalised_from, tried_from, unlocked_from, mark_from, marked_from, pair_from, ann_from, cut_from, link_from, tag_from, set_from, raised_tag_from}
+use Rattle.core_events.specs.Steps.{view_after, look_from, raised_from}
 use Rattle.core_invariant.proofs.HeldSlots.{slots_known, slots_found, slots_numbered, slots_marked, slots_paired, slots_link, slots_tag}
 use Rattle.core_invariant.proofs.Groups.{Group, PartOf, part}
 use Rattle.core_invariant.proofs.Groups.Group.{Owner, Inside, Announcing, History, Counting, Snapshot, Tree, Standing, Links, Turns, Looking, Filling, Nodes, Locks, Nexts, Change, Pending, Unset, Owed, Leaving, Waiting, Free, Retired, Grace, Unused}
@@ -168,25 +167,21 @@ module _ (z : Layout) (m : Memory) (vs : List View) (v : View) (x value : ℕ) (
       let u : View = in_section v value in
       settled_keeps z.passes (batch_taken u) g (enter_frees g off) ∙ taken_keeps z.passes u g (enter_frees g off) ∙ entered_keeps z.passes v value g off
 
-  leave_keeps : Keeps Leave (view_after Leave z m vs v Stamp x value o)
-  leave_keeps Owner off = refl
-  leave_keeps _ off = cc
-
   graced : (pass : ℕ) (u : View) (g : Group) → frees g ≡ false → part g (record u { grace = looked_at u.grace pass x }) ≡ part g u
   graced pass u Owner off = refl
   graced pass u _ off = cc
 
-  look_keeps : (w : Word) → Keeps LookSec (look_from z v w x)
-  look_keeps (Section pass) g off =
+  waiting_keeps : (pass : ℕ) → Keeps LookSec (looked_waiting v pass x)
+  waiting_keeps pass Owner off = refl
+  waiting_keeps pass _ off = cc
+
+  look_keeps : (pass : ℕ) → Keeps LookSec (look_from z v (Section pass) x)
+  look_keeps pass g off =
       let u : View = batch_taken v in
       let free = look_frees g off in
       either g (part g v) (has_no_lock v) (looked z.passes v pass x) (looked_waiting v pass x)
-      (settled_keeps z.passes (record u { grace = looked_at u.grace pass x }) g free ∙ graced pass u g free ∙ taken_keeps z.passes v g free) (by g off)
-    where
-      by : Keeps LookSec (looked_waiting v pass x)
-      by Owner off = refl
-      by _ off = cc
-  look_keeps _ g off = refl
+      (settled_keeps z.passes (record u { grace = looked_at u.grace pass x }) g free ∙ graced pass u g free ∙ taken_keeps z.passes v g free)
+      (waiting_keeps pass g off)
 
   fill_keeps : (w : Word) (b : Bool) → Keeps Fill (cond b (used_view v w) (with_filled (used_view v w) (filled_with (known_before v w) w value)))
   fill_keeps w true Owner off = refl
@@ -194,152 +189,77 @@ module _ (z : Layout) (m : Memory) (vs : List View) (v : View) (x value : ℕ) (
   fill_keeps w false Owner off = refl
   fill_keeps w false _ off = cc
 
-  stamp_keeps : Keeps LoadStamp (view_after LoadStamp z m vs v Stamp x value o)
-  stamp_keeps Owner off = refl
-  stamp_keeps _ off = cc
-
-  head_keeps : (w : Word) (number : ℕ) → Keeps LoadHead (head_from v w x number)
-  head_keeps (Node (Head side) k) number Owner off = refl
-  head_keeps (Node (Head side) k) number Locks off = slots_found k side x v.held.nodes
-  head_keeps (Node (Head side) k) number _ off = cc
-  head_keeps _ number g off = refl
-
-  ts_keeps : (w : Word) → Keeps LoadTs (ts_from v w x)
-  ts_keeps (Entry p e) Owner off = refl
-  ts_keeps (Entry p e) Locks off = slots_numbered e x v.held.nodes
-  ts_keeps (Entry p e) _ off = cc
-  ts_keeps _ g off = refl
-
-  ptr_keeps : (w : Word) → Keeps LoadPtr (ptr_from v w x)
-  ptr_keeps (Entry p e) Owner off = refl
-  ptr_keeps (Entry p e) _ off = cc
-  ptr_keeps _ g off = refl
-
-  next_at_keeps : (place : Place) (e : ℕ) → Keeps LoadNext (next_at v place e x)
-  next_at_keeps (AtEntry node side entry found) e Owner off = refl
-  next_at_keeps (AtEntry node side entry found) e _ off = cc
-  next_at_keeps _ e g off = refl
-
-  next_keeps : (w : Word) → Keeps LoadNext (next_from v w x)
-  next_keeps (Entry p e) g off = next_at_keeps v.reading.place e g off
-  next_keeps _ g off = refl
-
-  prepare_keeps : (w : Word) → Keeps Prepare (prepared_from v w value)
-  prepare_keeps (Node (Head side) k) Owner off = refl
-  prepare_keeps (Node (Head side) k) Locks off = slots_known k side (record { entry = value; stamp = None }) v.held.nodes
-  prepare_keeps (Node (Head side) k) _ off = cc
-  prepare_keeps _ g off = refl
+  next_keeps : (place : Place) (e : ℕ) → Keeps LoadNext (next_at v place e x)
+  next_keeps (AtEntry node side entry found) e Owner off = refl
+  next_keeps (AtEntry node side entry found) e _ off = cc
+  next_keeps _ e g off = refl
 
   raise_keeps : (o : Option Update) → Keeps Raise (raised_from z m vs v x o)
   raise_keeps (Some u) Owner off = refl
   raise_keeps (Some u) _ off = cc
   raise_keeps None g off = refl
 
-  finalise_keeps : (w : Word) → Keeps Finalise (finalised_from v w)
-  finalise_keeps (Entry p e) Owner off = refl
-  finalise_keeps (Entry p e) _ off = cc
-  finalise_keeps _ g off = refl
-
-  lock_keeps : (w : Word) → Keeps TryLock (tried_from v w value x)
-  lock_keeps (Node f k) g off = either g (part g v) (eqb x 0) (locked_view v k) (met_lock v value x) (locked g off) (met g off)
-    where
-      locked : Keeps TryLock (locked_view v k)
-      locked Owner off = refl
-      locked _ off = cc
-
-      met : Keeps TryLock (met_lock v value x)
-      met Owner off = refl
-      met _ off = cc
-  lock_keeps _ g off = refl
-
-  unlock_keeps : (w : Word) → Keeps Unlock (unlocked_from v w)
-  unlock_keeps (Node f k) Owner off = refl
-  unlock_keeps (Node f k) _ off = cc
-  unlock_keeps _ g off = refl
-
-  load_mark_keeps : (w : Word) → Keeps LoadMark (mark_from v w x)
-  load_mark_keeps (Node f k) Owner off = refl
-  load_mark_keeps (Node f k) Locks off = slots_marked k x v.held.nodes
-  load_mark_keeps (Node f k) _ off = cc
-  load_mark_keeps _ g off = refl
-
-  mark_keeps : (w : Word) → Keeps MarkNode (marked_from v w)
-  mark_keeps (Node f k) Owner off = refl
-  mark_keeps (Node f k) Locks off = slots_marked k 1 v.held.nodes
-  mark_keeps (Node f k) _ off = cc
-  mark_keeps _ g off = refl
-
-  pair_keeps : (w : Word) → Keeps LoadKeyOrVal (pair_from v w x)
-  pair_keeps (Node f k) Owner off = refl
-  pair_keeps (Node f k) Locks off = slots_paired f k x v.held.nodes
-  pair_keeps (Node f k) _ off = cc
-  pair_keeps _ g off = refl
-
-  announce_keeps : Keeps Announce (view_after Announce z m vs v Stamp x value o)
-  announce_keeps Owner off = refl
-  announce_keeps _ off = cc
-
-  look_ann_keeps : (w : Word) → Keeps LookAnn (ann_from v w x)
-  look_ann_keeps (Announced k) Owner off = refl
-  look_ann_keeps (Announced k) _ off = cc
-  look_ann_keeps _ g off = refl
-
-  cut_keeps : (w : Word) → Keeps Cut (cut_from z m v w)
-  cut_keeps (Entry p e) Owner off = refl
-  cut_keeps (Entry p e) _ off = cc
-  cut_keeps _ g off = refl
-
-  link_keeps : (w : Word) → Keeps LoadLink (link_from v w x)
-  link_keeps (Node (Link side) k) Owner off = refl
-  link_keeps (Node (Link side) k) Locks off = slots_link k side x v.held.nodes
-  link_keeps (Node (Link side) k) _ off = cc
-  link_keeps _ g off = refl
-
-  set_link_keeps : (w : Word) → Keeps SetLink (set_from v w value)
-  set_link_keeps (Node (Link side) k) Owner off = refl
-  set_link_keeps (Node (Link side) k) Locks off = slots_link k side value v.held.nodes
-  set_link_keeps (Node (Link side) k) _ off = cc
-  set_link_keeps _ g off = refl
-
-  tag_keeps : (w : Word) → Keeps LoadTag (tag_from v w x)
-  tag_keeps (Node (Tag side) k) Owner off = refl
-  tag_keeps (Node (Tag side) k) Locks off = slots_tag k side x v.held.nodes
-  tag_keeps (Node (Tag side) k) _ off = cc
-  tag_keeps _ g off = refl
-
-  set_tag_keeps : (w : Word) → Keeps SetTag (raised_tag_from v w value)
-  set_tag_keeps (Node (Tag side) k) Owner off = refl
-  set_tag_keeps (Node (Tag side) k) Locks off = slots_tag k side value v.held.nodes
-  set_tag_keeps (Node (Tag side) k) _ off = cc
-  set_tag_keeps _ g off = refl
+  lock_keeps : (k : ℕ) (b : Bool) → Keeps TryLock (cond b (locked_view v k) (met_lock v value x))
+  lock_keeps k true Owner off = refl
+  lock_keeps k true _ off = cc
+  lock_keeps k false Owner off = refl
+  lock_keeps k false _ off = cc
 
   -- no event changes what its kind does not touch
   pub keeps : (kind : Kind) (w : Word) → Keeps kind (view_after kind z m vs v w x value o)
-  keeps Enter w = enter_keeps
-  keeps Leave w = leave_keeps
-  keeps LookSec w = look_keeps w
-  keeps Fill w = fill_keeps w (is_even v.section_word)
-  keeps LoadStamp w = stamp_keeps
-  keeps LoadHead w = head_keeps w (m (Entry Number x))
-  keeps LoadTs w = ts_keeps w
-  keeps LoadPtr w = ptr_keeps w
-  keeps LoadNext w = next_keeps w
-  keeps Prepare w = prepare_keeps w
-  keeps Raise w = raise_keeps o
-  keeps Finalise w = finalise_keeps w
-  keeps TryLock w = lock_keeps w
-  keeps Unlock w = unlock_keeps w
-  keeps LoadMark w = load_mark_keeps w
-  keeps MarkNode w = mark_keeps w
-  keeps LoadKeyOrVal w = pair_keeps w
-  keeps Announce w = announce_keeps
-  keeps LookAnn w = look_ann_keeps w
-  keeps Cut w = cut_keeps w
-  keeps LoadLink w = link_keeps w
-  keeps SetLink w = set_link_keeps w
-  keeps LoadTag w = tag_keeps w
-  keeps SetTag w = set_tag_keeps w
-  keeps _ w = λ g off. refl
+  keeps Enter w g off = enter_keeps g off
+  keeps Leave w Owner off = refl
+  keeps Leave w _ off = cc
+  keeps LookSec (Section pass) g off = look_keeps pass g off
+  keeps Fill w g off = fill_keeps w (is_even v.section_word) g off
+  keeps LoadStamp w Owner off = refl
+  keeps LoadStamp w _ off = cc
+  keeps LoadHead (Node (Head side) k) Owner off = refl
+  keeps LoadHead (Node (Head side) k) Locks off = slots_found k side x v.held.nodes
+  keeps LoadHead (Node (Head side) k) _ off = cc
+  keeps LoadTs (Entry p e) Owner off = refl
+  keeps LoadTs (Entry p e) Locks off = slots_numbered e x v.held.nodes
+  keeps LoadTs (Entry p e) _ off = cc
+  keeps LoadPtr (Entry p e) Owner off = refl
+  keeps LoadPtr (Entry p e) _ off = cc
+  keeps LoadNext (Entry p e) g off = next_keeps v.reading.place e g off
+  keeps Prepare (Node (Head side) k) Owner off = refl
+  keeps Prepare (Node (Head side) k) Locks off = slots_known k side (record { entry = value; stamp = None }) v.held.nodes
+  keeps Prepare (Node (Head side) k) _ off = cc
+  keeps Raise w g off = raise_keeps o g off
+  keeps Finalise (Entry p e) Owner off = refl
+  keeps Finalise (Entry p e) _ off = cc
+  keeps TryLock (Node f k) g off = lock_keeps k (eqb x 0) g off
+  keeps Unlock (Node f k) Owner off = refl
+  keeps Unlock (Node f k) _ off = cc
+  keeps LoadMark (Node f k) Owner off = refl
+  keeps LoadMark (Node f k) Locks off = slots_marked k x v.held.nodes
+  keeps LoadMark (Node f k) _ off = cc
+  keeps MarkNode (Node f k) Owner off = refl
+  keeps MarkNode (Node f k) Locks off = slots_marked k 1 v.held.nodes
+  keeps MarkNode (Node f k) _ off = cc
+  keeps LoadKeyOrVal (Node f k) Owner off = refl
+  keeps LoadKeyOrVal (Node f k) Locks off = slots_paired f k x v.held.nodes
+  keeps LoadKeyOrVal (Node f k) _ off = cc
+  keeps Announce w Owner off = refl
+  keeps Announce w _ off = cc
+  keeps LookAnn (Announced pass) Owner off = refl
+  keeps LookAnn (Announced pass) _ off = cc
+  keeps Cut (Entry p e) Owner off = refl
+  keeps Cut (Entry p e) _ off = cc
+  keeps LoadLink (Node (Link side) k) Owner off = refl
+  keeps LoadLink (Node (Link side) k) Locks off = slots_link k side x v.held.nodes
+  keeps LoadLink (Node (Link side) k) _ off = cc
+  keeps SetLink (Node (Link side) k) Owner off = refl
+  keeps SetLink (Node (Link side) k) Locks off = slots_link k side value v.held.nodes
+  keeps SetLink (Node (Link side) k) _ off = cc
+  keeps LoadTag (Node (Tag side) k) Owner off = refl
+  keeps LoadTag (Node (Tag side) k) Locks off = slots_tag k side x v.held.nodes
+  keeps LoadTag (Node (Tag side) k) _ off = cc
+  keeps SetTag (Node (Tag side) k) Owner off = refl
+  keeps SetTag (Node (Tag side) k) Locks off = slots_tag k side value v.held.nodes
+  keeps SetTag (Node (Tag side) k) _ off = cc
+  keeps _ w g off = refl
 
 -- the groups that a part of the rule reads, as one value
 abbrev pub Parts : List Group → Type 0

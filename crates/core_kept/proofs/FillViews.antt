@@ -18,6 +18,7 @@ use Rattle.index_words.specs.Words.{Memory, written}
 use Rattle.key_map.specs.Lists.{count, has, Every, IsItem}
 use Rattle.key_map.proofs.Counting.{has-count}
 use Rattle.index_words.proofs.Seats.{item_set}
+use Rattle.index_words.proofs.Store.{same_word-refl}
 use Rattle.core_grace.specs.Sections.{is_even}
 use Rattle.core_grace.proofs.RuleMoves.{every_push}
 use Rattle.core_invariant.proofs.Pairs.{pairs_same}
@@ -25,7 +26,7 @@ use Rattle.core_invariant.specs.Meanings.{Meaning}
 use Rattle.core_events.specs.FillMoves.{filled_other, filled_with, with_filled, known_before, zeros_of, zeros_in, node_words, entry_words, used_slots, used_view, filled_view}
 use Rattle.core_invariant.specs.FilledRule.{FilledRight}
 use Rattle.core_invariant.specs.Rule.{Rule}
-use Rattle.core_invariant.proofs.Filled.{IsNotAmong, other_apart, other_every, word-refl}
+use Rattle.core_invariant.proofs.Filled.{IsNotAmong, other_apart, other_every}
 use Rattle.core_invariant.proofs.Joins.{every_append}
 use Rattle.core_invariant.specs.UnusedSlots.{UnusedRight}
 use Rattle.core_invariant.proofs.OneView.{seat_at, set_same, used_right}
@@ -86,7 +87,7 @@ module _ (z : Layout) (m : Memory) (g : Meaning) (i : ℕ) (w : Word) (x : ℕ) 
         let second : Rule z m' us g = stored us u first here refl (other_apart w v.reading.filled) in
         let right : Every (FilledRight m' v.free v.update) (filled_with v.reading.filled w x)
         = every_push (FilledRight m' v.free v.update) others (record { word = w; value = x }) (seat_at z m' us g i u here second).filled
-        (λ own. ap (λ b. cond b x (m w)) (word-refl w)) in
+        (λ own. ap (λ b. cond b x (m w)) (same_word-refl w)) in
         let third : Rule z m' (set us i (with_filled u (filled_with v.reading.filled w x))) g
         = knows_filled z m' us g second i u here (filled_with v.reading.filled w x) inside right in
         subst (λ (ws : List View). Rule z m' ws g) (set-set vs i u (with_filled u (filled_with v.reading.filled w x))) third

@@ -7,7 +7,7 @@ use Rattle.index_words.specs.declared.view.View.{View}
 use Rattle.index_words.specs.declared.view.slots.Slots.{Slots}
 use Rattle.index_words.specs.declared.view.update.Updating.{Updating}
 use Rattle.index_words.specs.declared.word.Field.{Field}
-use Rattle.index_words.specs.declared.word.Field.TheVariants.{Key, Val, Lock, Mark, Head, Link, Tag}
+use Rattle.index_words.specs.declared.word.Field.TheVariants.{Lock, Head, Link, Tag}
 use Rattle.index_words.specs.declared.word.Part.{Part}
 use Rattle.index_words.specs.declared.word.Part.TheVariants.{Stamp as Number, Next}
 use Rattle.index_words.specs.declared.word.Word.{Word}
@@ -122,12 +122,7 @@ Apart u _ = Unit {0}
 module _ (m : Memory) (u : View) (x : ℕ) where
   node_written : (f : Field) (k : ℕ) → Apart u (Node f k) → (y : Word) → IsOwnSlotWord u.free u.update y → written m (Node f k) x y ≡ m y
   node_written Lock k apart y own = lock_apart m u.free u.update k x y own
-  node_written Key k apart y own = node_apart m u.free u.update Key k x (apart refl) y own
-  node_written Val k apart y own = node_apart m u.free u.update Val k x (apart refl) y own
-  node_written Mark k apart y own = node_apart m u.free u.update Mark k x (apart refl) y own
-  node_written (Head s) k apart y own = node_apart m u.free u.update (Head s) k x (apart refl) y own
-  node_written (Link s) k apart y own = node_apart m u.free u.update (Link s) k x (apart refl) y own
-  node_written (Tag s) k apart y own = node_apart m u.free u.update (Tag s) k x (apart refl) y own
+  node_written f k apart y own = node_apart m u.free u.update f k x (apart refl) y own
 
   pub written_apart : (w : Word) → Apart u w → (y : Word) → IsFreeWord u.free y → written m w x y ≡ m y
   written_apart Stamp apart y is = stamp_apart m u.free u.update x y (own_word u.free u.update y is)

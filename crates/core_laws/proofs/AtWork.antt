@@ -32,7 +32,8 @@ use Rattle.core_laws.specs.ViewNeeds.{event_at, IsInside, IsKnownMarked, IsInRea
 use Rattle.core_invariant.proofs.OneView.{item_from_get, seat_at}
 use Rattle.core_invariant.proofs.Frames.{every_map}
 use Rattle.core_invariant.proofs.Idle.{number_low}
-use Rattle.core_laws.proofs.ViewTests.{word_named, some_searched, both, left_of, right_of, not_of, at_most, below, live_of, empty_length, all_tested, held_item, every_two}
+use Rattle.index_words.proofs.Store.{word_named}
+use Rattle.core_laws.proofs.ViewTests.{some_searched, both, left_of, right_of, not_of, at_most, below, live_of, empty_length, all_tested, held_item, every_two}
 
 module _ (z : Layout) (words : List ℕ) (vs : List View) (right : InRule z words vs) (i : ℕ) (v : View) (is : slice_get vs i ≡ Some v) where
   abbrev m : Memory

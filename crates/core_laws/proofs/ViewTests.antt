@@ -1,5 +1,5 @@
 -- What a view shows, as the tests of needs find it.
-use Rattle.std.proofs.Common.{◌≡◌, ◌≢◌, ℕ, ◌+◌, ◌-◌, ◌/◌, ◌%◌, ◌<◌, ◌≤◌, ◌⊎◌, cond, List, [], ◌∷◌, ◌++◌, length, Bool, true, false, not, eqb, ◌&&◌, ◌||◌, arith, refl, ap, ◌∙◌, sym, subst, inl, inr, Option, Some, None, is_none, find}
+use Rattle.std.proofs.Common.{◌≡◌, ◌≢◌, ℕ, ◌+◌, ◌<◌, ◌≤◌, ◌⊎◌, cond, List, [], ◌∷◌, ◌++◌, length, Bool, true, false, not, eqb, ◌&&◌, ◌||◌, arith, refl, ap, ◌∙◌, subst, inl, inr, Option, Some, None, is_none, find}
 use Rattle.std.specs.Prelude.{nat_lt, nat_le}
 use Rattle.std.specs.List.{list_all}
 use Rattle.std.proofs.lemmas.Bool.{and_parts, eqb-true, eq-eqb, ne_eqb}
@@ -8,12 +8,10 @@ use Rattle.index_words.specs.declared.layout.Layout.{Layout}
 use Rattle.index_words.specs.declared.view.View.{View}
 use Rattle.index_words.specs.declared.view.reading.TreeNode.{TreeNode}
 use Rattle.index_words.specs.declared.view.update.HeldNode.{HeldNode}
-use Rattle.index_words.specs.declared.word.Word.{Word}
-use Rattle.index_words.specs.declared.word.Word.TheVariants.{Stamp, Section, Announced, Node, Entry}
+use Rattle.index_words.specs.declared.word.Word.TheVariants.{Section}
 use Rattle.index_words.specs.Views.{spent_view}
-use Rattle.index_words.specs.Words.{word_at, address, is_there, same_side, word_count, nodes_begin, entries_begin, field_at, part_at}
+use Rattle.index_words.specs.Words.{same_side}
 use Rattle.index_words.proofs.Seats.{at_item}
-use Rattle.index_words.proofs.Store.{address-lt, address-apart, word_there}
 use Rattle.key_map.specs.Lists.{count, has, Every, IsItem}
 use Rattle.core_grace.specs.Batches.{is_empty, is_number}
 use Rattle.core_grace.specs.Holds.{held_slots, tree_slots}
@@ -63,32 +61,6 @@ at_most a b p = grind (arith, nat_tests)
 
 pub below : (a b : ℕ) → a < b → nat_lt a b ≡ true
 below a b p = grind (arith, nat_tests)
-
-not_below : (a b : ℕ) → a < b → nat_lt a b ≡ false → ⊥
-not_below a b p q = never (sym q ∙ below a b p)
-
--- a word of the table stands at its number
-no_option : {X : Type 0} (b : Bool) (x : X) (o : Option X) → cond b (Some x) o ≡ None → (b ≡ false) × (o ≡ None)
-no_option true x o is = cc
-no_option false x o is = (refl, is)
-
-word_some : (z : Layout) (n : ℕ) → n < word_count z → word_at z n ≡ None → ⊥
-word_some z n small none =
-    let a = no_option (eqb n 0) Stamp _ none in
-    let b = no_option (nat_le n z.passes) (Section (n - 1)) _ a.1 in
-    let c = no_option (nat_lt n (nodes_begin z)) (Announced (n - 1 - z.passes)) _ b.1 in
-    let d = no_option (nat_lt n (entries_begin z)) (Node (field_at ((n - nodes_begin z) % 10)) ((n - nodes_begin z) / 10)) _ c.1 in
-    let e = no_option (nat_lt n (word_count z)) (Entry (part_at ((n - entries_begin z) % 3)) ((n - entries_begin z) / 3 + 1)) None d.1 in
-    not_below n (word_count z) small e.0
-
-pub word_named : (z : Layout) (w : Word) → is_there z w ≡ true → word_at z (address z w) ≡ Some w
-word_named z w there = named_by (word_at z (address z w)) refl
-  where
-    named_by : (o : Option Word) → word_at z (address z w) ≡ o → o ≡ Some w
-    named_by None is = absurd (word_some z (address z w) (address-lt z w there) is)
-    named_by (Some u) is =
-        let found = word_there z (address z w) u is in
-        ap Some (address-apart z u w found.0 there found.1)
 
 -- a view that has what no spent view has was not joined away
 pub live_of : (z : Layout) (words : List ℕ) (vs : List View) (i : ℕ) (v : View) (P : View → Type 0) → InRule z words vs → IsItem vs i v → P v → (P spent_view → ⊥) → v.joined ≡ false

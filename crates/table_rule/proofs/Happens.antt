@@ -21,7 +21,7 @@ use Rattle.core_events.specs.WordMoves.Move.{Load, Store, Add, Swap, Seats}
 use Rattle.core_laws.specs.ViewNeeds.{May}
 use Rattle.core_invariant.proofs.KeptViews.{joined_kept, layout_kept}
 use Rattle.core_kept.proofs.StepLaw.{keeps}
-use Rattle.core_laws.proofs.ViewTests.{word_named}
+use Rattle.index_words.proofs.Store.{word_named}
 use Rattle.table_rule.specs.Homes.{IsLiveView}
 use Rattle.table_rule.specs.Running.{table, Stands, Happened, IsLoadMove, IsStoreMove, IsLoad, IsStore}
 use Rattle.table_rule.proofs.Lists.{get_from_found, get_set, some_same}

@@ -1,86 +1,41 @@
 -- What is kept at run time is what the view says after a raise.
-use Rattle.std.proofs.Common.{◌≡◌, ℕ, ◌+◌, ◌-◌, ◌<◌, ◌≤◌, ◌^◌, ◌⊎◌, List, [], ◌∷◌, ◌++◌, length, cond, Bool, true, false, eqb, arith, refl, ap, ◌∙◌, sym, subst, inl, inr, Option, Some, None, append_assoc}
+use Rattle.std.proofs.Common.{◌≡◌, ℕ, ◌+◌, ◌-◌, ◌<◌, ◌≤◌, ◌^◌, ◌⊎◌, List, [], ◌∷◌, ◌++◌, length, cond, Bool, true, false, eqb, arith, refl, ap, ◌∙◌, sym, subst, inl, inr, Option, Some, None, append_assoc, slice_index}
 use Rattle.std.specs.Prelude.{IfSome}
 use Rattle.std.specs.List.{slice_get}
 use Rattle.std.proofs.lemmas.Bool.{ne_eqb}
 use Rattle.std.proofs.lemmas.List.{length-append, map-append}
 use Rattle.index_words.specs.declared.layout.Layout.{Layout}
-use Rattle.index_words.specs.declared.side.Side.{Side}
-use Rattle.index_words.specs.declared.side.Side.TheVariants.{Left, Right}
 use Rattle.index_words.specs.declared.view.View.{View}
 use Rattle.index_words.specs.declared.view.slots.Slots.{Slots}
 use Rattle.index_words.specs.declared.view.slots.Looks.{Looks}
-use Rattle.index_words.specs.declared.view.update.Held.{Held as ViewHeld}
 use Rattle.index_words.specs.declared.view.update.Updating.{Updating}
 use Rattle.key_map.specs.declared.update.Update.{Update}
-use Rattle.key_map.specs.Lists.{count, IsItem}
+use Rattle.key_map.specs.Lists.{count}
 use Rattle.core_grace.specs.Holds.{listed}
 use Rattle.core_grace.proofs.RuleMoves.{every_weaker, every_push}
 use Rattle.core_events.specs.UpdateMoves.{without_all, listed_entry}
 use Rattle.core_invariant.specs.Histories.{update_at}
 use Rattle.pass_slots.specs.Owned.{KeptSlots, KeepsSlots, KeepsLooks, taken_from, node_count, entry_count}
+use Rattle.core_events.specs.declared.event.Event.{Event}
+use Rattle.core_updates.specs.Held.{raise_of}
 use Rattle.table_rule.specs.Homes.{IsLiveView}
+use Rattle.table_rule.specs.Running.{Happened, Stands}
+use Rattle.table_rule.proofs.Happens.{Left as LeftBy, happened_live, moved_happened, moved_view}
 use Rattle.table_rule.proofs.Lists.{get_last}
 use Rattle.table_steps.specs.Kept.{Keeps}
 use Rattle.table_steps.specs.Made.{Made, KeepsOwn}
 use Rattle.table_steps.specs.Passes.{Extends}
-use Rattle.table_steps.specs.Raises.{new_slot, new_left, new_right, slot_given, new_entries_of, nodes_out, HasNew, IsGiven, HoldsNext, HoldsChain, HoldsBundle, HoldsEntries, HasRaised}
+use Rattle.table_steps.specs.Raises.{new_slot, new_left, new_right, slot_given, new_entries_of, nodes_out, HasNew, IsGiven, HoldsEntries, HasRaised, MayRaiseBy}
 use Rattle.table_steps.specs.Retires.{HasRoomFor, with_retired}
 use Rattle.table_steps.specs.declared.kept.Kept.{Kept}
 use Rattle.table_steps.specs.declared.own_updates.OwnUpdate.{OwnUpdate}
 use Rattle.index_words.specs.declared.word.Word.TheVariants.{Stamp}
 use Rattle.index_words.specs.Words.{memory}
 use Rattle.core_invariant.proofs.TreeNow.{stamp_low}
+use Rattle.table_steps.proofs.RaiseGives.{raise_gives}
 use Rattle.table_steps.proofs.Own.{at_longer}
 use Rattle.table_steps.proofs.Views.{RightSeat, live_seat}
 use Rattle.table_steps.proofs.There.{free_entry_once, free_node_once, nodes_few, entries_few}
-
--- what a pass has found of its locked nodes, it knows where the same is held
-module _ (v w : View) (same : w.held ≡ v.held) where
-  chain_on : (node head : ℕ) (es : List ℕ) → HoldsChain v node head es → HoldsChain w node head es
-  chain_on node head [] none = none
-  chain_on node head (e ∷ es) held = (held.0, held.1, (held.2.0, next_on node e held.2.0 held.2.1, chain_on node held.2.0 es held.2.2))
-    where
-      next_on : (node e next : ℕ) → HoldsNext v node e next → HoldsNext w node e next
-      next_on node e next h = record {
-        place = h.place;
-        item = h.item;
-        at = subst (λ (x : ViewHeld). IsItem x.nexts h.place h.item) (sym same) h.at;
-        node_is = h.node_is;
-        entry_is = h.entry_is;
-        next_is = h.next_is;
-      }
-
-  bundle_on : (node : ℕ) (side : Side) (es : List ℕ) → HoldsBundle v node side es → HoldsBundle w node side es
-  bundle_on node side es h = record {
-    head = h.head;
-    held = record {
-      place = h.held.place;
-      held = h.held.held;
-      at = subst (λ (x : ViewHeld). IsItem x.nodes h.held.place h.held.held) (sym same) h.held.at;
-      node_is = h.held.node_is;
-      loaded = h.held.loaded;
-      head = h.held.head;
-      entry_is = h.held.entry_is;
-    };
-    chain = chain_on node h.head es h.chain;
-  }
-
-  pub entries_on : (ks es : List ℕ) → HoldsEntries v ks es → HoldsEntries w ks es
-  entries_on [] es none = none
-  entries_on (k ∷ ks) es held = (
-    held.0,
-    held.1,
-    record {
-      lefts = held.2.lefts;
-      rights = held.2.rights;
-      left = bundle_on k Left held.2.lefts held.2.left;
-      right = bundle_on k Right held.2.rights held.2.right;
-      are = held.2.are;
-    },
-    entries_on ks held.1 held.3,
-    held.4,
-  )
 
 given_list : (k : ℕ) → listed (slot_given k) ≡ listed_entry k
 given_list k = by_test (eqb k 0)
@@ -168,10 +123,6 @@ module _ (v w : View) (u : Update) (new out : List ℕ) (at : ℕ) (gives : HasR
     raised = subst (λ (y : Updating). IfSome y.raised (λ n. n ≡ at)) (sym (ap (λ (y : View). y.update) gives.view)) (sym gives.place);
   }
 
-  -- what the pass has found of its locked nodes, it also knows after the raise
-  pub raise_holds : HoldsEntries w (nodes_out out) gives.entries
-  raise_holds = entries_on v w (ap (λ (y : View). y.held) gives.view) (nodes_out out) gives.entries gives.holds
-
   -- there is room for what is retired
   module _ (live : IsLiveView w) where
     node_sum : node_count slots_taken + length (nodes_out out) ≤ v.layout.nodes
@@ -204,6 +155,26 @@ module _ (v w : View) (u : Update) (new out : List ℕ) (at : ℕ) (gives : HasR
       entries = omega (arith, entry_sum, keeps.entry_room);
       looks = omega (arith, entry_sum);
     }
+
+-- What the raise would leave says, before it is made, that there is room.
+pub record HasRoomAhead (v : View) (new out : List ℕ) (k : Kept) : Type 0 where
+  pub entries : List ℕ
+  pub holds : HoldsEntries v (nodes_out out) entries
+  pub room : HasRoomFor (nodes_out out) entries v.layout.entries (record k.slots { free = taken_from (listed_entry (new_slot new)) (new_entries_of new) k.slots.free })
+
+pub raise_ahead : (v : View) (live : IsLiveView v) (u : Update) (new out es : List ℕ) (k : Kept) → Keeps v k → 0 < v.history.left → MayRaiseBy v.layout v u new out → HasNew v new
+    → HoldsEntries v (nodes_out out) es → HasRoomAhead v new out k
+raise_ahead v live u new out es k keeps left may ready holds =
+    let z : Layout = v.layout in
+    let stands : Stands z v = live.stands in
+    let event : Event = raise_of z stands.seat u in
+    let met = may.2.may stands.words stands.views stands.seat stands.rule stands.at in
+    let w : View = moved_view z event v Stamp refl refl tt stands.words stands.views stands.rule stands.at met in
+    let found : ℕ = slice_index stands.words event.word in
+    let happens : Happened z event v found w = moved_happened z event v Stamp refl refl tt stands.words stands.views stands.rule stands.at met in
+    let after : LeftBy z w = happened_live z event v w found Stamp refl refl refl tt live.live happens in
+    let gives : HasRaised v u new out (found + 1) w = raise_gives z stands.seat u v w refl found happens new out es may ready holds in
+    record { entries = gives.entries; holds = gives.holds; room = raise_room v w u new out (found + 1) gives k keeps left after.live }
 
 -- what the new node takes is free
 module _ (v : View) (live : IsLiveView v) (k : Kept) (keeps : Keeps v k) (new : List ℕ) (ready : HasNew v new) where

@@ -1,5 +1,5 @@
 -- A pass as plain data, and the states in which its calls may be made.
-use Rattle.std.specs.Prelude.{◌≡◌, ℕ, List, [], ◌++◌, false}
+use Rattle.std.specs.Prelude.{◌≡◌, ℕ, ◌+◌, ◌<◌, ◌/◌, List, [], ◌++◌, length, false}
 use Rattle.index_words.specs.declared.view.View.{View}
 use Rattle.key_map.specs.declared.update.Update.{Update}
 use Rattle.core_grace.specs.Sections.{is_even}
@@ -43,3 +43,7 @@ IsAlone v = v.layout.passes ≡ 1
 -- what was seen goes on
 abbrev pub Extends : List Update → List Update → Type 0
 Extends old new = (more : List Update) × (new ≡ old ++ more)
+
+-- the pass owns more entries than each would have if all entries of the table were shared out evenly
+abbrev pub HasSurplus : View → Type 0
+HasSurplus v = v.layout.entries / v.layout.passes < length v.free.entries + length v.batch.entries + length v.retired.entries

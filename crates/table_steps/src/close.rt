@@ -91,7 +91,7 @@ impl SharedTable {
     {
         let copy = self.ruled.split(whole);
         copy.facts();
-        let PassKey { mut seat, kept } = key;
+        let PassKey { mut seat, kept, .. } = key;
         seat.facts();
         self.absorb(&mut seat, copy);
         seat.facts();

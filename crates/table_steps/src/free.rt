@@ -1,6 +1,7 @@
 //! What a pass may still use: its free slots, by their places in its lists, all slots that it owns, and its calls.
-ghost use Rattle.std.specs.Prelude.{◌≡◌, ◌+◌, length};
+ghost use Rattle.std.specs.Prelude.{◌≡◌, ◌+◌, length, true};
 ghost use Rattle.std.specs.List.{slice_get};
+ghost use Rattle.table_steps.specs.Passes.{HasSurplus};
 
 use crate::pass::TablePass;
 
@@ -45,6 +46,19 @@ impl<'t> TablePass<'t> {
         ensures { result ≡ length self.now.view.free.entries + length self.now.view.batch.entries + length self.now.view.retired.entries }
     {
         self.kept.slots.owned_entries()
+    }
+
+    /// Whether the pass owns more entries than it was given when the table was opened, and more than each pass would have
+    /// if all entries of the table were shared out evenly. No clause speaks of the first: a pass that was given more
+    /// than others, for more updates, needs what it was given.
+    pub fn has_surplus(&self) -> bool
+        ensures { result ≡ true → HasSurplus self.now.view }
+    {
+        let share = self.share as usize;
+        let layout = self.layout();
+        let owned = self.owned_entries();
+        let even = layout.entries / layout.passes;
+        owned > share && owned > even as usize
     }
 
     /// How many updates the pass may still make.

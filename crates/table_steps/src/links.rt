@@ -31,6 +31,9 @@ impl<'t> TablePass<'t> {
 
     /// Loads a plain link: the child, or 0 for none. The pass has locked the node, or its search stands there and then
     /// goes on by the link.
+    ///
+    /// The condition is narrower than the event's need, which allows each locked node: the node was found unmarked, and
+    /// the root has its right link alone. Only there does the rule say that the word is a node of the table, or 0.
     pub fn load_link(&mut self, node: u32, side: Side) -> u32
         requires may { MayReadLink self.old.view node side }
         ensures same { IsSamePass self.old self.new }

@@ -94,7 +94,11 @@ impl SharedTable {
         ensures number { result.number ≡ first.number }
     {
         let made = self.ruled.make::<Brand>(seat, first.number, size);
-        PassKey { seat: made, kept }
+        PassKey {
+            seat: made,
+            kept,
+            share: size.entries,
+        }
     }
 
     /// Makes the keys of these passes from the first seat, one after another.

@@ -68,7 +68,7 @@ impl<'t> TablePass<'t> {
     }
 
     /// The layout of the table.
-    fn layout(&self) -> Layout
+    pub(crate) fn layout(&self) -> Layout
         ensures { result ≡ self.now.view.layout }
     {
         let table = self.table;

@@ -13,6 +13,7 @@ use table_rule::TableSeat;
 pub struct PassKey {
     pub(crate) seat: TableSeat,
     pub(crate) kept: Kept,
+    pub(crate) share: u32,
 }
 
 impl Model for PassKey {
@@ -32,6 +33,7 @@ pub struct TablePass<'t> {
     pub(crate) table: &'t SharedTable,
     pub(crate) seat: TableSeat,
     pub(crate) kept: Kept,
+    pub(crate) share: u32,
 }
 
 impl<'t> Model for TablePass<'t> {
@@ -53,11 +55,12 @@ impl SharedTable {
         ensures same { result ≡ key }
         ensures rest { AtRest result.view }
     {
-        let PassKey { seat, kept } = key;
+        let PassKey { seat, kept, share } = key;
         TablePass {
             table: self,
             seat,
             kept,
+            share,
         }
     }
 }
@@ -72,8 +75,9 @@ impl<'t> TablePass<'t> {
             table: _,
             seat,
             kept,
+            share,
         } = self;
-        PassKey { seat, kept }
+        PassKey { seat, kept, share }
     }
 
     /// The number of the pass.

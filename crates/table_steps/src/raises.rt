@@ -16,7 +16,7 @@ impl<'t> TablePass<'t> {
     /// Raises an update: it takes effect here, and this answers its place. `new` is the slot of the new node and the
     /// heads of its left and its right bundle, and `out` the nodes that are taken out; 0 stands for none. Of each node
     /// that is taken out the pass has found the heads and all nexts since it locked it, so it knows which entries it
-    /// retires.
+    /// retires. As at `prepare`, the new node and its entries have to be filled in this section.
     pub fn raise(
         &mut self,
         line: u32,
@@ -35,6 +35,16 @@ impl<'t> TablePass<'t> {
     {
         self.seat.facts();
         let table = self.table;
+        let limit = table.ruled.layout().entries;
+        // What goes out is found before the raise: from the raise on readers wait until the entries have numbers.
+        self.kept.slots.take_new(new[0], new[1], new[2]);
+        retire_nodes(
+            &mut self.kept.slots,
+            &table.ruled,
+            &mut self.seat,
+            out,
+            limit,
+        );
         let update = Update {
             client: self.kept.number,
             line,
@@ -44,18 +54,9 @@ impl<'t> TablePass<'t> {
         let found = table.ruled.add::<Brand>(&mut self.seat, &update);
         self.seat.facts();
         let at = found + 1;
-        let limit = table.ruled.layout().entries;
         self.kept.left -= 1;
         self.kept.raised = at;
         self.kept.updates.add(OwnUpdate { at, update });
-        self.kept.slots.take_new(new[0], new[1], new[2]);
-        retire_nodes(
-            &mut self.kept.slots,
-            &table.ruled,
-            &mut self.seat,
-            out,
-            limit,
-        );
         at
     }
 }

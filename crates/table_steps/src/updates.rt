@@ -13,6 +13,9 @@ use std::marker::Brand;
 
 impl<'t> TablePass<'t> {
     /// Puts a free entry in front of a bundle of a locked node. Readers wait at it until it has a number.
+    ///
+    /// The condition is narrower than the event's need: the entry has to be filled in this section, after its last load
+    /// of the stamp. At an enter and at such a load the view forgets which words were filled.
     pub fn prepare(&mut self, node: u32, side: Side, entry: u32)
         requires may { MayPrepare self.old.view node side entry }
         ensures same { IsSamePass self.old self.new }

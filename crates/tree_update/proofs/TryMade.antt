@@ -11,8 +11,9 @@ use Rattle.core_grace.specs.Batches.{all_passed, batch_freed, batch_taken, is_em
 use Rattle.core_updates.specs.declared.plan.PlanSlots.{PlanSlots}
 use Rattle.plan_laws.specs.Frames.{CountsGrow, KeepsTry}
 use Rattle.plan_laws.specs.Tries.{IsTrying}
+use Rattle.table_rule.specs.Homes.{IsLiveView}
 use Rattle.table_steps.specs.Passes.{Pass}
-use Rattle.table_steps.specs.Stamps.{HasOpened}
+use Rattle.table_steps.specs.Stamps.{HasOpened, outside_again}
 use Rattle.update_search.specs.declared.outcome.Failed.{Failed}
 use Rattle.update_search.specs.declared.outcome.Failed.TheVariants.{Busy, Moved}
 use Rattle.update_search.specs.Outcomes.{HasRisen, IsCounted, KeepsPlaces}
@@ -20,7 +21,7 @@ use Rattle.update_search.specs.Searching.{IsAtTop}
 use Rattle.update_search.proofs.Failures.{counted_later}
 use Rattle.update_try.proofs.Steps.{no_node}
 use Rattle.bundle_reads.specs.Links.{InsideAt}
-use Rattle.tree_update.specs.Trying.{OffersSlots}
+use Rattle.tree_update.specs.Trying.{HasSearched, OffersSlots}
 
 -- an enter changes no count, and takes no free slot away
 taken_counts : (v : View) → (batch_taken v).counts ≡ v.counts
@@ -43,6 +44,32 @@ taken_free v = by_test (is_empty v.batch)
     by_test : (b : Bool) → (cond b (record v { retired = no_slots; batch = v.retired; grace = no_looks }) v).free ≡ v.free
     by_test true = refl
     by_test false = refl
+
+-- an enter makes the section word one greater
+taken_word : (v : View) → (batch_taken v).section_word ≡ v.section_word
+taken_word v = by_test (is_empty v.batch)
+  where
+    by_test : (b : Bool) → (cond b (record v { retired = no_slots; batch = v.retired; grace = no_looks }) v).section_word ≡ v.section_word
+    by_test true = refl
+    by_test false = refl
+
+settled_word : (passes : ℕ) (v : View) → (settled passes v).section_word ≡ v.section_word
+settled_word passes v = by_test (all_passed passes v.number v.grace.passed)
+  where
+    by_test : (b : Bool) → (cond b (batch_freed v) v).section_word ≡ v.section_word
+    by_test true = refl
+    by_test false = refl
+
+opened_word : (p : Pass) (b : View) (n : ℕ) → HasOpened p 0 n b → b.section_word ≡ p.view.section_word + 1
+opened_word p b n opened =
+    let inside : View = in_section p.view (p.view.section_word + 1) in
+    ap (λ (u : View). u.section_word) opened.reads.view
+    ∙ settled_word p.view.layout.passes (batch_taken inside) ∙ taken_word inside
+
+-- a search that has ended so in its section, which was left then
+pub has_searched : (EndsSo : View → Type 0) (p : Pass) (b x w : View) (n : ℕ) → HasOpened p 0 n b → KeepsPlaces b x → IsLiveView x → EndsSo x → w ≡ outside_again x → HasSearched EndsSo p.view w
+has_searched EndsSo p b x w n opened keeps live ends left =
+    record { at = x; live = live; ends = ends; section = keeps.keeps.pass.word ∙ opened_word p b n opened; left = left }
 
 -- what is free stays free
 record KeepsFree (a b : Slots) : Type 0 where

@@ -8,7 +8,7 @@ ghost use Rattle.key_map.specs.Map.{value_at};
 ghost use Rattle.table_steps.specs.Passes.{AtRest, IsSamePass};
 ghost use Rattle.table_steps.specs.Stamps.{IsFoundSince};
 ghost use Rattle.tree_update.specs.Calls.{StaysOn, GoesOn, MakesPut, LooksFor, AnswersPutNew, AnswersRemoval, IsPlaceOfPut, IsPlaceOfNew, IsPlaceOfRemoval, IsRefusal, IsOutOfSlots};
-ghost use Rattle.tree_update.specs.Trying.{OffersSlots};
+ghost use Rattle.tree_update.specs.Trying.{OffersSlots, PutsNewLater, RemovesLater};
 
 use crate::ending::end_removal;
 use crate::trying::{Missed, try_update};
@@ -78,6 +78,7 @@ fn try_removal<R: Wait>(
     ensures rest { AtRest pass.new.view }
     ensures answered { IfSome result (AnswersRemoval pass.old.view pass.new.view pass.old.number line key) }
     ensures place { IfSome result (λ done. IsPlaceOfRemoval pass.old line key done pass.new.view) }
+    ensures later { result ≡ None → RemovesLater key pass.old.view pass.new.view }
     ensures goes { result ≡ None → GoesOn pass.old.view pass.new.view }
 {
     match try_update(pass, line, key, Change::Remove, false, slots) {
@@ -116,6 +117,7 @@ fn try_new<R: Wait>(
     ensures rest { AtRest pass.new.view }
     ensures answered { IfSome result (AnswersPutNew pass.old.view pass.new.view pass.old.number line key val) }
     ensures place { IfSome result (λ answer. IsPlaceOfNew pass.old line key val answer pass.new.view) }
+    ensures later { result ≡ None → PutsNewLater key pass.old.view pass.new.view }
     ensures goes { result ≡ None → GoesOn pass.old.view pass.new.view }
 {
     match try_update(pass, line, key, Change::Put(val), true, slots) {

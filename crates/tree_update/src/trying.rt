@@ -3,6 +3,7 @@ ghost use Rattle.std.specs.Prelude.{◌≡◌, ◌↔◌, ◌<◌, ◌&&◌, tru
 ghost use Rattle.core_updates.specs.Ready.{update_of};
 ghost use Rattle.table_steps.specs.Passes.{AtRest, IsAlone, IsSamePass};
 ghost use Rattle.table_steps.specs.Raises.{IsRaisedSince};
+ghost use Rattle.table_steps.specs.Stamps.{outside_again};
 ghost use Rattle.tree_update.specs.Calls.{StaysOn, HasMade, MakesPut, IsPlaceOfPut};
 ghost use Rattle.update_search.specs.Aims.{has_found};
 ghost use Rattle.update_search.specs.Outcomes.{HasRisen};
@@ -59,6 +60,7 @@ pub(crate) fn give_up(pass: &mut TablePass<'_>, at: u64)
     requires reads { InsideAt pass.old.view at }
     ensures same { IsSamePass pass.old pass.new }
     ensures rest { AtRest pass.new.view }
+    ensures left { pass.new.view ≡ outside_again pass.old.view }
     ensures stays { StaysOn pass.old.view pass.new.view }
     ensures counts { pass.new.view.counts ≡ pass.old.view.counts }
 {
@@ -95,6 +97,7 @@ pub(crate) fn try_update(
     match find_aim(pass, key, change) {
         Ok(Some(aim)) => {
             if is_kept_out(only_new, &aim) {
+                pass.facts();
                 give_up(pass, at);
                 return Err(Missed::There);
             }
@@ -104,6 +107,7 @@ pub(crate) fn try_update(
             }
         }
         Ok(None) => {
+            pass.facts();
             give_up(pass, at);
             Err(Missed::Absent)
         }

@@ -1,7 +1,6 @@
 //! What a call waits for, outside of a section: free slots before an update, and, if it cuts without one, that others
 //! no longer read what it could cut.
 ghost use Rattle.std.specs.Prelude.{◌≡◌, ◌<◌, ◌≤◌, is_some, true};
-ghost use Rattle.core_events.specs.Announcing.{smaller};
 ghost use Rattle.table_steps.specs.Passes.{AtRest, Inside, IsSamePass};
 ghost use Rattle.tree_update.specs.Calls.{StaysOn};
 ghost use Rattle.tree_update.specs.Trying.{OffersSlots};
@@ -13,7 +12,7 @@ use std::sync::Wait;
 use std::thread::yield_now;
 use table_steps::TablePass;
 use update_search::begin_search;
-use update_try::plan_slots;
+use update_try::{lower, plan_slots};
 
 /// How many pauses of the processor come before the yield.
 const PAUSES: u32 = 32;
@@ -36,18 +35,6 @@ pub(crate) fn pause() {
 pub(crate) struct Sight {
     pub own: u64,
     pub least: u64,
-}
-
-/// The smaller of a number and the announced one; `word` is what the announcement holds.
-fn lower(number: u64, word: u64) -> u64
-    ensures smaller { result ≡ smaller number word }
-    ensures low { result ≤ number }
-{
-    if 0 < word && word - 1 < number {
-        word - 1
-    } else {
-        number
-    }
 }
 
 /// Looks at what a pass has announced, if it is another one, and answers the smaller of that and `least`.

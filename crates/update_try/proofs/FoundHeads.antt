@@ -139,7 +139,7 @@ module _ (v : View) (node e number : ℕ) (side : Side) (again : (head : ℕ) �
     entry_is = h.entry_is;
   }
 
-  heads_found : KeepsHeads v w
+  pub heads_found : KeepsHeads v w
   heads_found = record {
     head = head_still;
     numbered = λ at head h. record {
@@ -149,7 +149,7 @@ module _ (v : View) (node e number : ℕ) (side : Side) (again : (head : ℕ) �
   }
 
 -- a load of a number
-heads_numbered : (v : View) (e x : ℕ) → 0 < x → KeepsHeads v (ts_loaded v e x)
+pub heads_numbered : (v : View) (e x : ℕ) → 0 < x → KeepsHeads v (ts_loaded v e x)
 heads_numbered v e x some = record {
   head = λ node head side h.
       let known = (number-at e x some (record { node = node; side = side })).head h.held h.loaded h.node_is h.head in

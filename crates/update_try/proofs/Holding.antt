@@ -1,11 +1,10 @@
 -- The nodes that a try has locked on its way to a plan.
-use Rattle.std.proofs.Common.{◌≡◌, ℕ, ◌+◌, ◌<◌, List, [], ◌∷◌, ◌++◌, arith, ◌∙◌, sym, subst, inl, inr, ap, Some}
+use Rattle.std.proofs.Common.{◌≡◌, ℕ, ◌<◌, List, [], ◌∷◌, ◌++◌, arith, ◌∙◌, sym, subst, inl, inr, ap, Some}
 use Rattle.std.proofs.lemmas.Bool.Decides.{nat_tests}
 use Rattle.index_words.specs.declared.side.Side.{Side}
 use Rattle.index_words.specs.declared.side.Side.TheVariants.{Left, Right}
 use Rattle.index_words.specs.declared.view.View.{View}
 use Rattle.index_words.specs.declared.view.reading.Reading.{Reading}
-use Rattle.index_words.specs.declared.view.reading.Place.TheVariants.{Node as AtNode}
 use Rattle.key_map.specs.Lists.{count}
 use Rattle.key_map.proofs.Counting.{count-push}
 use Rattle.core_events.specs.Searches.{is_plain}
@@ -20,9 +19,11 @@ use Rattle.update_search.specs.declared.descent.KeyNode.{KeyNode}
 use Rattle.update_search.specs.Aims.{HasStepped}
 use Rattle.update_search.specs.Ends.{IsFoundAt}
 use Rattle.update_search.proofs.Nodes.{place_node}
+use Rattle.update_search.specs.Searching.{KeepsSearch}
 use Rattle.update_search.proofs.Keeps.{found_locked, none_locked}
 use Rattle.update_try.specs.Looking.{IsLockedBy, IsRightOf, KnowsKey}
 use Rattle.update_try.specs.Planning.{FindsNode}
+use Rattle.update_try.proofs.LooksUnder.{gap_locked}
 
 pub locked_in : (v : View) (n : ℕ) (items : List ℕ) (k : ℕ) → IsTrying v n items → 0 < count k items → IsLockedBy v k
 locked_in v n items k trying some = record { number = n; nodes = items; trying = trying; locked = subst (λ (ks : List ℕ). 0 < count k ks) (sym trying.locked) some }
@@ -33,6 +34,21 @@ last_in items more k is = subst (λ (ks : List ℕ). 0 < count k ks) (sym is) (g
 
 pub still_in : (items more : List ℕ) (j k : ℕ) → more ≡ items ++ k ∷ [] → 0 < count j items → 0 < count j more
 still_in items more j k is some = subst (λ (ks : List ℕ). 0 < count j ks) (sym is) (omega (arith, some, count-push j items k))
+
+-- what a look keeps of the locks, from its view to the next one: each is a step of a chain
+pub locked_on : {v w : View} {k : ℕ} → KeepsSearch v w → IsLockedBy v k → IsLockedBy w k
+locked_on {v} {w} {k} keeps by = gap_locked v w k keeps by
+
+pub trying_on : {v w : View} {m n : ℕ} {items : List ℕ} → KeepsSearch v w → m ≡ n → IsTrying v n items → IsTrying w m items
+trying_on {v} {w} {m} {n} {items} keeps same trying = subst (λ j. IsTrying w j items) (sym same) (keeps.places.trying n items trying)
+
+-- a node that was locked last, and one that was locked before the last
+pub last_locked : {v : View} {n k : ℕ} {more : List ℕ} (items : List ℕ) → IsTrying v n more → more ≡ items ++ k ∷ [] → IsLockedBy v k
+last_locked {v} {n} {k} {more} items trying is = locked_in v n more k trying (last_in items more k is)
+
+pub first_locked : {v : View} {n j : ℕ} {one two : List ℕ} (items : List ℕ) (k : ℕ) → IsTrying v n two → one ≡ items ++ j ∷ []
+    → two ≡ one ++ k ∷ [] → IsLockedBy v j
+first_locked {v} {n} {j} {one} {two} items k trying was is = locked_in v n two j trying (still_in one two j k is (last_in items one j was))
 
 -- nothing is known where no node is locked
 pub no_link : (v : View) (n : ℕ) (items : List ℕ) → IsTrying v n items → items ≡ [] → (k : ℕ) (side : Side) → ¬ KnowsLink v k side

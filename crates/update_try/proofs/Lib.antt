@@ -14,6 +14,8 @@ pub mod OnlyCuts
 pub mod FreeSlots
 -- The newest entries of bundles of locked nodes.
 pub mod FoundHeads
+-- What is known of bundles that were cut.
+pub mod ShortBundles
 pub mod Done
 -- A pass that is alone on its table stays so.
 pub mod Alone

@@ -36,22 +36,11 @@ self k n = grind (arith, nat_tests)
 
 -- one more node was locked
 module _ (v w : View) (n m : ℕ) (nodes : List ℕ) (k : ℕ) (before : IsTrying v n nodes) (now : IsTrying w m (nodes ++ k ∷ [])) where
-  pub last_locked : IsLocked w k
-  last_locked = subst (λ ks. 0 < count k ks) (sym now.locked) (omega (arith, count-append k nodes (k ∷ []), self k 0))
-
-  pub still_locked : (j : ℕ) → IsLocked v j → IsLocked w j
-  still_locked j on =
-      let some : 0 < count j nodes = subst (λ ks. 0 < count j ks) before.locked on in
-      subst (λ ks. 0 < count j ks) (sym now.locked) (omega (arith, count-append j nodes (k ∷ []), some))
-
   pub still_off : (j : ℕ) → ¬ (k ≡ j) → ¬ IsLocked v j → ¬ IsLocked w j
   still_off j apart off on =
       let some : 0 < count j (nodes ++ k ∷ []) = subst (λ ks. 0 < count j ks) now.locked on in
       let none : count j (k ∷ []) ≡ 0 = ap (λ b. cond b 1 0 + 0) (ne_eqb k j apart) in
       off (subst (λ ks. 0 < count j ks) (sym before.locked) (omega (arith, some, none, count-append j nodes (k ∷ []))))
-
-  pub last_by : IsLockedBy w k
-  last_by = record { number = m; nodes = nodes ++ k ∷ []; trying = now; locked = last_locked }
 
 -- a node of those that a try has locked
 pub locked_in : (v : View) (n : ℕ) (nodes : List ℕ) (k : ℕ) → IsTrying v n nodes → 0 < count k nodes → IsLockedBy v k

@@ -176,7 +176,7 @@ may_look v other apart there reads = record { other = λ own. absurd (clash (is_
     clash false f t = cc
 
 -- what is known of a head stays with the locked nodes
-holds_still : (v w : View) (at : Link) (head : ℕ) → w.held.nodes ≡ v.held.nodes → HoldsEntry v at head → HoldsEntry w at head
+pub holds_still : (v w : View) (at : Link) (head : ℕ) → w.held.nodes ≡ v.held.nodes → HoldsEntry v at head → HoldsEntry w at head
 holds_still v w at head same h = record {
   head = record {
     place = h.head.place;
@@ -191,7 +191,7 @@ holds_still v w at head same h = record {
 }
 
 -- what was found of the entries is kept
-walked_kept : (v w : View) (node entry number next : ℕ) → KeepsNexts v w → HasWalkedAt v node entry number next → HasWalkedAt w node entry number next
+pub walked_kept : (v w : View) (node entry number next : ℕ) → KeepsNexts v w → HasWalkedAt v node entry number next → HasWalkedAt w node entry number next
 walked_kept v w node entry number next keeps at = record { place = at.place; is = keeps at.place (record { node = node; entry = entry; stamp = Some number; next = next }) at.is; written = at.written }
 
 pub walk_kept : (v w : View) (node least from last : ℕ) (front : List ℕ) → KeepsNexts v w → HasWalkedTo v node least from front last → HasWalkedTo w node least from front last
@@ -316,7 +316,11 @@ module _ (v u w : View) (at : Link) (least head entry number next : ℕ) (front 
     there = subst (λ (x : View). entry ≤ x.layout.entries) (sym numbered) past.stands.there;
   }
 
-  nexts_loaded : KeepsNexts v w
+  -- the locked nodes are known as after the load of the number
+  pub nodes_read : w.held.nodes ≡ u.held.nodes
+  nodes_read = walked_held u at head entry on some w next gives low
+
+  pub nexts_loaded : KeepsNexts v w
   nexts_loaded place item is =
       walked_nexts u at head entry on some w next gives low place item (subst (λ (x : View). IsItem x.held.nexts place item) (sym numbered) is)
 
@@ -433,6 +437,10 @@ module _ (v w : View) (at : Link) (least : Least) (head : ℕ) (front : List ℕ
 
   pub can_cut : (back : List ℕ) → HoldsChain w at.node stop.next back → CanCut w at.node at.side stop.entry
   can_cut back chain = record { may = may_cut; back = back; behind = chain }
+
+  pub cut_back : (back : List ℕ) (chain : HoldsChain w at.node stop.next back) → (can_cut back chain).back ≡ back
+  unfolding can_cut
+  cut_back back chain = refl
 
 module _ (v w : View) (entry : ℕ) (back : List ℕ) (is : w ≡ cut_view v entry back) where
   pub cut_update : KeepsUpdate v w

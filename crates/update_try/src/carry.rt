@@ -31,6 +31,7 @@ ghost use Rattle.update_try.specs.Carried.{HasCarriedOut};
 ghost use Rattle.update_try.specs.Outcomes.{KeepsAll};
 ghost use Rattle.update_try.specs.Parting.{far_of, parted_plan, EndsAs};
 ghost use Rattle.update_try.specs.Preparing.{IsPrepared};
+ghost use Rattle.update_try.specs.Pruning.{ArePrunedOrLeft, walk_limit};
 
 use crate::after_raise::{finalise_all, mark_all};
 use crate::fills::{fill_all, prepare_all};
@@ -75,6 +76,7 @@ pub struct Carried {
 /// locks, and then the section.
 fn end_at_once(pass: &mut TablePass<'_>, plan: &Plan, slots: &PlanSlots)
     requires numbered { HasNumbered pass.old.view pass.old.number plan.now slots.now }
+    requires pruned { ArePrunedOrLeft pass.old.view plan.now (walk_limit pass.old.view) }
     requires near { SetsAtOnce plan.now }
     ensures same { IsSamePass pass.old pass.new }
     ensures rest { AtRest pass.new.view }

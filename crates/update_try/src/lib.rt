@@ -28,7 +28,7 @@ pub use cutting::cut_found;
 pub use parting::{Parted, unlink_successor};
 pub use plain_links::{raise_tag, set_plain};
 pub use planning::validate;
-pub use pruning::prune_all;
+pub use pruning::{lower, prune_all};
 pub use raising::raise_plan;
 pub use release::{leave_section, unlock_all};
 pub use slots::plan_slots;

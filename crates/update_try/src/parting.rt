@@ -12,6 +12,7 @@ ghost use Rattle.plan_laws.specs.Prunes.{HasNumbered};
 ghost use Rattle.plan_laws.specs.Releases.{IsGivingBack};
 ghost use Rattle.table_steps.specs.Passes.{AtRest, IsSamePass};
 ghost use Rattle.update_try.specs.Parting.{far_of, HasParted};
+ghost use Rattle.update_try.specs.Pruning.{ArePrunedOrLeft, walk_limit};
 
 use core_updates::{JoinPlan, Plan, PlanSlots};
 use table_steps::TablePass;
@@ -43,6 +44,7 @@ pub(crate) fn far_join(plan: &Plan) -> Option<JoinPlan>
 /// Ends the section of a removal with a far successor, after the numbers and the cuts.
 pub(crate) fn part(pass: &mut TablePass<'_>, plan: &JoinPlan, slots: &PlanSlots) -> Parted
     requires numbered { HasNumbered pass.old.view pass.old.number (Join plan.now) slots.now }
+    requires pruned { ArePrunedOrLeft pass.old.view (Join plan.now) (walk_limit pass.old.view) }
     requires far { IsFar plan.now }
     requires node { 0 < slots.now.node }
     ensures same { IsSamePass pass.old pass.new }

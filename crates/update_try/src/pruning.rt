@@ -3,12 +3,12 @@
 //! In a bundle no number that is read, now or later, selects an entry after the first one whose number is at most the
 //! pass's least number. That is at first its own section number. Only if something hangs after that entry does the pass
 //! look at what the others have announced, once for all bundles of the update.
-ghost use Rattle.std.specs.Prelude.{◌≡◌, ◌<◌, ◌≤◌, ℕ, IfSome, Some, is_some, true};
+ghost use Rattle.std.specs.Prelude.{◌≡◌, ◌<◌, ◌≤◌, ℕ, List, IfSome, None, Some, is_some, true};
 ghost use Rattle.core_events.specs.Announcing.{smaller};
 ghost use Rattle.key_map.specs.Lists.{count};
 ghost use Rattle.plan_laws.specs.Prunes.{HasNumbered, KeepsPruned};
 ghost use Rattle.table_steps.specs.Passes.{IsSamePass};
-ghost use Rattle.update_try.specs.Pruning.{GoesPast, HasLookedAt, IsChanged, IsLeast, KeepsLeast, KeepsPlace, KeepsUpdate, StopsAt};
+ghost use Rattle.update_try.specs.Pruning.{ArePrunedOrLeft, EndsAtLeast, GoesPast, HasGonePast, HasLookedAt, HasStopped, IsChanged, IsLeast, IsPruned, KeepsLeast, KeepsOthers, KeepsPlace, KeepsUpdate, KeepsWalks, StopsAt, walk_limit};
 
 use crate::walking::walk_along;
 use core_trees::Link;
@@ -42,7 +42,7 @@ pub(crate) struct Stop {
 }
 
 /// The smaller of a number and the announced one; `word` is what the announcement holds.
-fn lower(number: u64, word: u64) -> u64
+pub fn lower(number: u64, word: u64) -> u64
     ensures smaller { result ≡ smaller number word }
     ensures low { result ≤ number }
 {
@@ -97,7 +97,8 @@ fn load_entry(pass: &mut TablePass<'_>, at: Link, entry: u32) -> Stop
     requires past { (least : ℕ) × GoesPast pass.old.view at least entry }
     requires some { 0 < entry }
     ensures same { IsSamePass pass.old pass.new }
-    ensures stops { (least : ℕ) → GoesPast pass.old.view at least entry → StopsAt pass.new.view at least result }
+    ensures stops { (least head : ℕ) (front : List ℕ) → HasGonePast pass.old.view at least head front entry → HasStopped pass.new.view at least head front result }
+    ensures walks { KeepsWalks pass.old.view pass.new.view }
     ensures update { KeepsUpdate pass.old.view pass.new.view }
     ensures least { KeepsLeast pass.old.view pass.new.view }
 {
@@ -112,7 +113,9 @@ fn load_entry(pass: &mut TablePass<'_>, at: Link, entry: u32) -> Stop
 }
 
 /// The most entries that a walk goes past.
-fn longest_walk(pass: &TablePass<'_>) -> u32 {
+pub(crate) fn longest_walk(pass: &TablePass<'_>) -> u32
+    ensures { result ≡ walk_limit pass.now.view }
+{
     if pass.free_entries() < ENOUGH {
         u32::MAX
     } else {
@@ -122,17 +125,18 @@ fn longest_walk(pass: &TablePass<'_>) -> u32 {
 
 /// Goes on along a bundle to the first entry whose number is not above the least one. `None` if nothing hangs after it,
 /// or if there is none among the next ones.
-fn go_past(pass: &mut TablePass<'_>, at: Link, least: u64, first: u32) -> Option<Stop>
+fn go_past(pass: &mut TablePass<'_>, at: Link, least: u64, first: u32, longest: u32) -> Option<Stop>
     requires past { GoesPast pass.old.view at least first }
     ensures same { IsSamePass pass.old pass.new }
     ensures stops { IfSome result (λ stop. StopsAt pass.new.view at least stop) }
     ensures low { IfSome result (λ stop. stop.number ≤ least) }
+    ensures pruned { result ≡ None → IsPruned pass.new.view at least longest }
+    ensures walks { KeepsWalks pass.old.view pass.new.view }
     ensures update { KeepsUpdate pass.old.view pass.new.view }
     ensures least { KeepsLeast pass.old.view pass.new.view }
 {
     let mut entry = first;
-    let longest = longest_walk(pass);
-    'along: for _ in 0..longest {
+    'along: for passed in 0..longest {
         if entry == 0 {
             return None;
         }
@@ -156,6 +160,8 @@ fn cut_behind(pass: &mut TablePass<'_>, at: Link, least: Least, stop: Stop)
     requires stops { StopsAt pass.old.view at least.number stop }
     requires low { stop.number ≤ least.number }
     ensures same { IsSamePass pass.old pass.new }
+    ensures ends { EndsAtLeast pass.new.view at least.number }
+    ensures others { KeepsOthers pass.old.view at pass.new.view }
     ensures update { KeepsUpdate pass.old.view pass.new.view }
     ensures least { KeepsLeast pass.old.view pass.new.view }
 {
@@ -181,12 +187,14 @@ fn least_of_all(pass: &mut TablePass<'_>, own: Least) -> Least
 
 /// Cuts a bundle after the entry at which a walk has stopped, if its number is not above the least one, and else after
 /// a later one.
-fn cut_from(pass: &mut TablePass<'_>, at: Link, least: Least, stop: Stop)
+fn cut_from(pass: &mut TablePass<'_>, at: Link, least: Least, stop: Stop, longest: u32)
     requires stays { count at.node pass.old.view.update.taken ≡ 0 }
     requires least { IsLeast pass.old.view least }
     requires looked { least.looked ≡ true }
     requires stops { StopsAt pass.old.view at least.number stop }
     ensures same { IsSamePass pass.old pass.new }
+    ensures pruned { IsPruned pass.new.view at least.number longest }
+    ensures others { KeepsOthers pass.old.view at pass.new.view }
     ensures update { KeepsUpdate pass.old.view pass.new.view }
     ensures least { KeepsLeast pass.old.view pass.new.view }
 {
@@ -194,7 +202,7 @@ fn cut_from(pass: &mut TablePass<'_>, at: Link, least: Least, stop: Stop)
         cut_behind(pass, at, least, stop);
         return;
     }
-    let Some(later) = go_past(pass, at, least.number, stop.next) else {
+    let Some(later) = go_past(pass, at, least.number, stop.next, longest) else {
         return;
     };
     cut_behind(pass, at, least, later);
@@ -202,36 +210,46 @@ fn cut_from(pass: &mut TablePass<'_>, at: Link, least: Least, stop: Stop)
 
 /// Cuts the bundle of a link that the update changed, if something hangs after what is read. Answers the least number,
 /// for which the pass may have looked at the others here.
-pub(crate) fn prune_link(pass: &mut TablePass<'_>, at: Link, own: Least) -> Least
+pub(crate) fn prune_link(pass: &mut TablePass<'_>, at: Link, own: Least, longest: u32) -> Least
     requires changed { IsChanged pass.old.view at }
     requires least { IsLeast pass.old.view own }
     ensures same { IsSamePass pass.old pass.new }
     ensures least { IsLeast pass.new.view result }
+    ensures lower { result.number ≤ own.number }
+    ensures pruned { IsPruned pass.new.view at result.number longest }
+    ensures others { KeepsOthers pass.old.view at pass.new.view }
     ensures update { KeepsUpdate pass.old.view pass.new.view }
 {
     let head = pass.load_head(at.node, at.side);
-    let Some(stop) = go_past(pass, at, own.number, head) else {
+    let Some(stop) = go_past(pass, at, own.number, head, longest) else {
         return own;
     };
     let least = least_of_all(pass, own);
-    cut_from(pass, at, least, stop);
+    cut_from(pass, at, least, stop, longest);
     least
 }
 
-/// Cuts the bundles in front of which an update has put its entries. `number` is the one at which the pass reads.
+/// Cuts the bundles in front of which an update has put its entries. `number` is the one at which the pass reads. A pass
+/// that owns more than its share leaves them to passes that own too few, which gather them. Else a pass that takes out
+/// what another one puts would come to own all entries, since the entries of a node go to whoever takes it out.
 pub fn prune_all(pass: &mut TablePass<'_>, plan: &Plan, slots: &PlanSlots, number: u64)
     requires numbered { HasNumbered pass.old.view pass.old.number plan.now slots.now }
     requires least { pass.old.view.reading.least ≡ Some number }
     ensures same { IsSamePass pass.old pass.new }
     ensures numbered { HasNumbered pass.new.view pass.new.number plan.now slots.now }
+    ensures pruned { ArePrunedOrLeft pass.new.view plan.now (walk_limit pass.new.view) }
     ensures keeps { KeepsPruned pass.old.view pass.new.view }
 {
+    if pass.has_surplus() {
+        return;
+    }
+    let longest = longest_walk(pass);
     let own = Least {
         number,
         looked: false,
     };
-    let least = prune_link(pass, plan.at(), own);
+    let least = prune_link(pass, plan.at(), own, longest);
     if let Some(next) = plan.next_at() {
-        prune_link(pass, next, least);
+        prune_link(pass, next, least, longest);
     }
 }

@@ -1,4 +1,4 @@
-use Rattle.std.proofs.Common.{ap, subst, Bool, false}
+use Rattle.std.proofs.Common.{ap, inr, subst, Bool, false}
 use Rattle.index_words.specs.declared.view.history.SeenHistory.{SeenHistory}
 use Rattle.key_map.specs.declared.update.Change.TheVariants.{Remove}
 use Rattle.core_updates.specs.Ready.{update_of}
@@ -8,6 +8,8 @@ use Rattle.tree_update.proofs.CallsMade.{removal_answers}
 use Rattle.tree_update.proofs.Places.{removal_raised}
 use Rattle.table_steps.proofs.Places.{found_later, raised_before}
 use Rattle.tree_update.proofs.Ends.{made_kept}
+use Rattle.tree_update.specs.Trying.{IsMissed}
+use Rattle.tree_update.specs.declared.trying.Missed.TheVariants.{Absent}
 use Rattle.tree_update.proofs.calls.try_removal.Goals as goal
 
 pub returns-in-Ok-clause-answered : goal.returns-in-Ok-clause-answered
@@ -46,3 +48,12 @@ pub returns-else-found-clause-place : goal.returns-else-found-clause-place
 returns-else-found-clause-place g c =
     found_later c.args.pass.now c.try_update.new.pass c.look_for-found.result.at c.look_for-found.new.pass.view c.try_update.ensures.same
     c.in-Err-Absent.ensures.stays.goes.looks c.look_for-found.ensures.found
+
+pub returns-then-found-clause-later : goal.returns-then-found-clause-later
+returns-then-found-clause-later g c = λ _.
+    let u = c.try_update.new.pass.view in
+    let w = c.look_for-found.new.pass.view in
+    let found = c.look_for-found.result in
+    let missed : IsMissed false c.args.key Remove c.args.pass.now.view u Absent
+    = subst (IsMissed false c.args.key Remove c.args.pass.now.view u) c.in-Err-Absent.field-0-is c.in-Err-Absent.ensures.missed in
+    inr (u, found.at, missed.1, subst (λ (b : Bool). LooksFor u w c.args.key b found.at) c.if-found.true c.look_for-found.ensures.looked)

@@ -6,13 +6,15 @@ use Rattle.key_map.specs.declared.update.Change.{Change}
 use Rattle.table_steps.proofs.Places.{raised_later}
 use Rattle.table_steps.specs.Raises.{IsRaisedSince}
 use Rattle.update_search.specs.declared.search.Aim.{Aim}
-use Rattle.update_search.specs.Aims.{IsAimOf, change_of, has_found, key_of}
-use Rattle.tree_update.specs.Trying.{EndsBy}
+use Rattle.index_words.specs.declared.view.View.{View}
+use Rattle.update_search.specs.Ends.{IsMissing}
+use Rattle.update_search.specs.Aims.{IsAim, IsAimOf, change_of, has_found, key_of}
+use Rattle.tree_update.specs.Trying.{EndsBy, FindsKey}
 use Rattle.tree_update.proofs.Alone.{others_stay}
 use Rattle.tree_update.proofs.CallSteps.{kept_stays, search_stays, stays_more}
 use Rattle.tree_update.proofs.CallsMade.{made_as, has_made_more}
 use Rattle.tree_update.proofs.Ends.{ends_by}
-use Rattle.tree_update.proofs.TryMade.{counted_still, offers_still, opened_counted, searched_inside, searched_waits, try_counted}
+use Rattle.tree_update.proofs.TryMade.{counted_still, has_searched, offers_still, opened_counted, searched_inside, searched_waits, try_counted}
 use Rattle.tree_update.proofs.trying.try_update.Goals as goal
 
 -- what the search has found
@@ -133,9 +135,22 @@ first_true : (a b : Bool) → (a && b) ≡ true → a ≡ true
 first_true true b both = refl
 first_true false b both = both
 
+second_true : (a b : Bool) → (a && b) ≡ true → b ≡ true
+second_true true b both = both
+second_true false b both = cc
+
 pub returns-then-is_kept_out-clause-missed : goal.returns-then-is_kept_out-clause-missed
 returns-then-is_kept_out-clause-missed c =
-    first_true c.args.only_new (has_found c.in-Ok-Some.aim) (sym c.is_kept_out.ensures ∙ c.if-is_kept_out.true)
+    let x = c.find_aim.new.pass.view in
+    let aim = c.in-Ok-Some.aim in
+    let both = sym c.is_kept_out.ensures ∙ c.if-is_kept_out.true in
+    let of : IsAimOf c.args.key c.args.change aim = aim_of c.args.key c.args.change c.in-Ok-Some.field-0 aim c.in-Ok-Some.field-0-is c.in-Ok-Some.ensures.of in
+    let is : IsAim x aim = subst (λ (o : Option Aim). IfSome o (IsAim x)) c.in-Ok-Some.field-0-is c.in-Ok-Some.ensures.aim in (
+      first_true c.args.only_new (has_found aim) both,
+      has_searched (FindsKey c.args.key) c.args.pass.now c.begin_search-at.new.pass.view x c.give_up.new.pass.view c.begin_search-at.result c.begin_search-at.ensures.opened
+          c.in-Ok-Some.ensures.keeps.places c.facts-then-is_kept_out.ensures (record { aim = aim; is = is; key_is = of.key_is; found = second_true c.args.only_new (has_found aim) both })
+          c.give_up.ensures.left,
+    )
 
 pub returns-then-is_kept_out-clause-stays : goal.returns-then-is_kept_out-clause-stays
 returns-then-is_kept_out-clause-stays c =
@@ -151,6 +166,14 @@ returns-then-is_kept_out-clause-waits c =
     c.begin_search-at.ensures.opened c.in-Ok-Some.ensures.keeps.places (ap (λ (n : Counts). n.waits) c.give_up.ensures.counts)
 
 -- the search has not found the key of a removal
+pub returns-in-Ok-None-clause-missed : goal.returns-in-Ok-None-clause-missed
+returns-in-Ok-None-clause-missed c =
+    let x = c.find_aim.new.pass.view in (
+      c.in-Ok-None.ensures.none c.in-Ok-None.field-0-is,
+      has_searched (λ (at : View). IsMissing at c.args.key) c.args.pass.now c.begin_search-at.new.pass.view x c.give_up-in-Ok-None.new.pass.view c.begin_search-at.result
+          c.begin_search-at.ensures.opened c.in-Ok-None.ensures.keeps.places c.facts-in-Ok-None.ensures (c.in-Ok-None.ensures.missing c.in-Ok-None.field-0-is) c.give_up-in-Ok-None.ensures.left,
+    )
+
 pub returns-in-Ok-None-clause-stays : goal.returns-in-Ok-None-clause-stays
 returns-in-Ok-None-clause-stays c =
     let v = c.args.pass.now.view in

@@ -3,6 +3,7 @@ use Rattle.index_words.specs.declared.view.reading.Reading.{Reading}
 use Rattle.core_updates.specs.declared.plan.Plan.{Plan}
 use Rattle.plan_laws.specs.Prunes.{HasNumbered}
 use Rattle.plan_laws.proofs.Prunes.{keeps_pruned, owned_is_pruned}
+use Rattle.update_try.specs.Pruning.{ArePrunedOrLeft, walk_limit}
 use Rattle.update_try.proofs.FarSteps.{far_plan, near_plan}
 use Rattle.update_try.proofs.carry.end_update.Goals as goal
 
@@ -11,7 +12,7 @@ prune_all-requires-clause-least c = ap (λ (r : Reading). r.least) c.finalise_al
 
 pub end_at_once-requires : goal.end_at_once-requires
 end_at_once-requires c =
-    record { numbered = c.prune_all.ensures.numbered; near = near_plan c.args.plan.now (sym c.far_join.ensures ∙ c.in_default.is) }
+    record { numbered = c.prune_all.ensures.numbered; pruned = c.prune_all.ensures.pruned; near = near_plan c.args.plan.now (sym c.far_join.ensures ∙ c.in_default.is) }
 
 pub part-requires : goal.part-requires
 part-requires c =
@@ -19,6 +20,7 @@ part-requires c =
     let is = far_plan c.args.plan.now c.in-Some.join (sym c.far_join.ensures ∙ c.in-Some.is) in
     record {
       numbered = subst (λ (x : Plan). HasNumbered q.view q.number x c.args.slots.now) is.plan_is c.prune_all.ensures.numbered;
+      pruned = subst (λ (x : Plan). ArePrunedOrLeft q.view x (walk_limit q.view)) is.plan_is c.prune_all.ensures.pruned;
       far = is.far;
       node = c.requires.node;
     }

@@ -4,10 +4,9 @@ use Rattle.key_map.specs.Lists.{count}
 use Rattle.core_events.specs.Searches.{search_nodes}
 use Rattle.plan_laws.specs.Tries.{IsTrying}
 use Rattle.update_search.proofs.Nodes.{link_node}
-use Rattle.update_try.specs.Looking.{IsLockedBy}
 use Rattle.update_try.proofs.Found.{root_link}
-use Rattle.update_try.proofs.LooksUnder.{gap_locked}
-use Rattle.update_try.proofs.NextLooks.{last_by, nothing_apart, nothing_kept, still_locked, still_off, unlocked_nothing}
+use Rattle.update_try.proofs.Holding.{first_locked, locked_on, trying_on}
+use Rattle.update_try.proofs.NextLooks.{nothing_apart, nothing_kept, still_off, unlocked_nothing}
 use Rattle.update_try.proofs.planning.hold_far.Goals as goal
 
 pub lock-requires-clause-searched : goal.lock-requires-clause-searched
@@ -17,23 +16,15 @@ pub lock-requires-2-clause-unlocked : goal.lock-requires-2-clause-unlocked
 lock-requires-2-clause-unlocked c =
     let k = c.args.found.now.at.node in
     let w = c.lock.new.pass.view in
-    let now : IsTrying w c.lock.new.pass.number (c.args.locks.now.items ++ k ∷ []) = subst (IsTrying w c.lock.new.pass.number) c.in_ok-lock.ensures.one_more c.lock.ensures.trying in
-    still_off c.args.pass.now.view w c.args.pass.now.number c.lock.new.pass.number c.args.locks.now.items k c.requires.trying now c.args.found.now.node c.requires.found.1.apart c.requires.unlocked
+    let now : IsTrying w c.lock.new.pass.number (c.args.locks.now.items ++ k ∷ [])
+    = subst (IsTrying w c.lock.new.pass.number) c.in_ok-lock.ensures.one_more c.lock.ensures.trying in
+    still_off c.args.pass.now.view w c.args.pass.now.number c.lock.new.pass.number c.args.locks.now.items k c.requires.trying now c.args.found.now.node
+    c.requires.found.1.apart c.requires.unlocked
 
 pub look_unmarked-requires-clause-locked : goal.look_unmarked-requires-clause-locked
 look_unmarked-requires-clause-locked c =
-    let k = c.args.found.now.at.node in
-    let w = c.lock.new.pass.view in
-    let u = c.lock-2.new.pass.view in
-    let now : IsTrying w c.lock.new.pass.number (c.args.locks.now.items ++ k ∷ []) = subst (IsTrying w c.lock.new.pass.number) c.in_ok-lock.ensures.one_more c.lock.ensures.trying in
-    let by : IsLockedBy w k = last_by c.args.pass.now.view w c.args.pass.now.number c.lock.new.pass.number c.args.locks.now.items k c.requires.trying now in
-    let then : IsTrying u c.lock-2.new.pass.number (c.lock.new.locks.items ++ c.args.found.now.node ∷ []) = subst (IsTrying u c.lock-2.new.pass.number) c.in_ok-lock-2.ensures.one_more c.lock-2.ensures.trying in
-    record {
-      number = c.lock-2.new.pass.number;
-      nodes = c.lock.new.locks.items ++ c.args.found.now.node ∷ [];
-      trying = then;
-      locked = still_locked w u c.lock.new.pass.number c.lock-2.new.pass.number c.lock.new.locks.items c.args.found.now.node c.lock.ensures.trying then k by.locked;
-    }
+    let items = c.args.locks.now.items in
+    first_locked items c.args.found.now.node c.lock-2.ensures.trying c.in_ok-lock.ensures.one_more c.in_ok-lock-2.ensures.one_more
 
 pub look_unmarked-requires-clause-searched : goal.look_unmarked-requires-clause-searched
 look_unmarked-requires-clause-searched c =
@@ -42,19 +33,9 @@ look_unmarked-requires-clause-searched c =
 
 pub look_leads-requires-clause-locked : goal.look_leads-requires-clause-locked
 look_leads-requires-clause-locked c =
-    let k = c.args.found.now.at.node in
-    let w = c.lock.new.pass.view in
-    let u = c.lock-2.new.pass.view in
-    let now : IsTrying w c.lock.new.pass.number (c.args.locks.now.items ++ k ∷ []) = subst (IsTrying w c.lock.new.pass.number) c.in_ok-lock.ensures.one_more c.lock.ensures.trying in
-    let by : IsLockedBy w k = last_by c.args.pass.now.view w c.args.pass.now.number c.lock.new.pass.number c.args.locks.now.items k c.requires.trying now in
-    let then : IsTrying u c.lock-2.new.pass.number (c.lock.new.locks.items ++ c.args.found.now.node ∷ []) = subst (IsTrying u c.lock-2.new.pass.number) c.in_ok-lock-2.ensures.one_more c.lock-2.ensures.trying in
-    gap_locked u c.look_unmarked.new.pass.view k c.look_unmarked.ensures.keeps
-    (record {
-      number = c.lock-2.new.pass.number;
-      nodes = c.lock.new.locks.items ++ c.args.found.now.node ∷ [];
-      trying = then;
-      locked = still_locked w u c.lock.new.pass.number c.lock-2.new.pass.number c.lock.new.locks.items c.args.found.now.node c.lock.ensures.trying then k by.locked;
-    })
+    let items = c.args.locks.now.items in
+    locked_on c.look_unmarked.ensures.keeps
+    (first_locked items c.args.found.now.node c.lock-2.ensures.trying c.in_ok-lock.ensures.one_more c.in_ok-lock-2.ensures.one_more)
 
 pub look_leads-requires-clause-root : goal.look_leads-requires-clause-root
 look_leads-requires-clause-root c = root_link c.args.pass.now.view c.facts.ensures c.args.found.now.at c.args.found.now.node c.requires.found.1.at
@@ -77,15 +58,14 @@ returns-clause-first c =
     nothing_apart c.args.found.now.at c.look_unmarked.new.pass.view c.look_leads.new.pass.view k c.look_leads.ensures.learns c.requires.found.1.apart three
 
 pub returns-in_err-look_unmarked-clause-trying : goal.returns-in_err-look_unmarked-clause-trying
-returns-in_err-look_unmarked-clause-trying c =
-    subst (λ n. IsTrying c.look_unmarked.new.pass.view n c.lock-2.new.locks.items) (sym c.look_unmarked.ensures.same.number) (c.look_unmarked.ensures.keeps.places.trying c.lock-2.new.pass.number c.lock-2.new.locks.items c.lock-2.ensures.trying)
+returns-in_err-look_unmarked-clause-trying c = trying_on c.look_unmarked.ensures.keeps c.look_unmarked.ensures.same.number c.lock-2.ensures.trying
 
 pub returns-in_err-look_leads-clause-trying : goal.returns-in_err-look_leads-clause-trying
 returns-in_err-look_leads-clause-trying c =
-    subst (λ n. IsTrying c.look_leads.new.pass.view n c.lock-2.new.locks.items) (sym (c.look_leads.ensures.same.number ∙ c.look_unmarked.ensures.same.number))
-    (c.look_leads.ensures.keeps.places.trying c.lock-2.new.pass.number c.lock-2.new.locks.items (c.look_unmarked.ensures.keeps.places.trying c.lock-2.new.pass.number c.lock-2.new.locks.items c.lock-2.ensures.trying))
+    let one = trying_on c.look_unmarked.ensures.keeps c.look_unmarked.ensures.same.number c.lock-2.ensures.trying in
+    trying_on c.look_leads.ensures.keeps c.look_leads.ensures.same.number one
 
 pub returns-clause-trying : goal.returns-clause-trying
 returns-clause-trying c =
-    subst (λ n. IsTrying c.look_leads.new.pass.view n c.lock-2.new.locks.items) (sym (c.look_leads.ensures.same.number ∙ c.look_unmarked.ensures.same.number))
-    (c.look_leads.ensures.keeps.places.trying c.lock-2.new.pass.number c.lock-2.new.locks.items (c.look_unmarked.ensures.keeps.places.trying c.lock-2.new.pass.number c.lock-2.new.locks.items c.lock-2.ensures.trying))
+    let one = trying_on c.look_unmarked.ensures.keeps c.look_unmarked.ensures.same.number c.lock-2.ensures.trying in
+    trying_on c.look_leads.ensures.keeps c.look_leads.ensures.same.number one

@@ -1,4 +1,4 @@
-use Rattle.std.proofs.Common.{◌≡◌, ℕ, ◌<◌, ◌++◌, ◌∷◌, [], List, subst, sym}
+use Rattle.std.proofs.Common.{ℕ, ◌<◌, List, subst, sym}
 use Rattle.key_map.specs.Lists.{count}
 use Rattle.core_updates.specs.Plans.{LinkLook}
 use Rattle.update_try.proofs.NextLooks.{counts_last, counts_second, locked_in, next_kept, nothing_kept, unlocked_nothing}

@@ -1,6 +1,7 @@
-use Rattle.std.proofs.Common.{◌<◌, ◌∙◌, [], ◌∷◌, ◌++◌, ap, arith}
+use Rattle.std.proofs.Common.{◌<◌, ◌∙◌, inl, [], ◌∷◌, ◌++◌, ap, arith}
 use Rattle.key_map.specs.Lists.{count}
 use Rattle.update_try.proofs.Pruned.{goes_on, least_more, least_still, update_more}
+use Rattle.update_try.proofs.ShortBundles.{others_kept, others_more}
 use Rattle.update_try.proofs.pruning.cut_from.Goals as goal
 
 pub go_past-requires : goal.go_past-requires
@@ -30,3 +31,20 @@ returns-clause-update c =
 pub returns-clause-least : goal.returns-clause-least
 returns-clause-least c =
     least_more c.args.pass.now.view c.go_past.new.pass.view c.cut_behind-2.new.pass.view c.go_past.ensures.least c.cut_behind-2.ensures.least
+
+pub returns-then-stop-least-clause-pruned : goal.returns-then-stop-least-clause-pruned
+returns-then-stop-least-clause-pruned c = inl c.cut_behind.ensures.ends
+
+pub returns-clause-pruned : goal.returns-clause-pruned
+returns-clause-pruned c = inl c.cut_behind-2.ensures.ends
+
+pub returns-clause-others : goal.returns-clause-others
+returns-clause-others c =
+    let w = c.go_past.new.pass.view in
+    others_more c.args.pass.now.view w c.cut_behind-2.new.pass.view c.args.at (others_kept c.args.pass.now.view w c.args.at c.go_past.ensures.walks) c.cut_behind-2.ensures.others
+
+pub returns-in_default-clause-others : goal.returns-in_default-clause-others
+returns-in_default-clause-others c = others_kept c.args.pass.now.view c.go_past.new.pass.view c.args.at c.go_past.ensures.walks
+
+pub returns-in_default-clause-pruned : goal.returns-in_default-clause-pruned
+returns-in_default-clause-pruned c = c.go_past.ensures.pruned c.in_default.is

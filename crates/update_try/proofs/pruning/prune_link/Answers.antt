@@ -1,6 +1,7 @@
 use Rattle.std.proofs.Common.{[], ◌∙◌, ap}
 use Rattle.key_map.specs.Lists.{count}
 use Rattle.update_try.proofs.Pruned.{begins, head_least, head_update, least_more, least_still, may_head, stopped_still, update_more}
+use Rattle.update_try.proofs.ShortBundles.{others_kept, others_more, walks_head, walks_more, walks_still}
 use Rattle.update_try.proofs.pruning.prune_link.Goals as goal
 
 pub load_head-head-requires : goal.load_head-head-requires
@@ -66,3 +67,26 @@ returns-clause-update c =
     let view = c.load_head-head.ensures.view in
     update_more v w z (head_update v w c.args.at c.load_head-head.result view.number view.view)
     (update_more w x z c.go_past.ensures.update (update_more x y z c.least_of_all-least.ensures.update c.cut_from.ensures.update))
+
+pub returns-in_default-clause-pruned : goal.returns-in_default-clause-pruned
+returns-in_default-clause-pruned c = c.go_past.ensures.pruned c.in_default.is
+
+pub returns-in_default-clause-others : goal.returns-in_default-clause-others
+returns-in_default-clause-others c =
+    let p = c.args.pass.now in
+    let q = c.load_head-head.new.self in
+    let x = c.go_past.new.pass.view in
+    let e = c.load_head-head.ensures in
+    others_kept p.view x c.args.at (walks_more p.view q.view x (walks_head p q c.args.at.node c.args.at.side c.load_head-head.result e.event e.view) c.go_past.ensures.walks)
+
+pub returns-clause-others : goal.returns-clause-others
+returns-clause-others c =
+    let p = c.args.pass.now in
+    let q = c.load_head-head.new.self in
+    let x = c.go_past.new.pass.view in
+    let y = c.least_of_all-least.new.pass.view in
+    let e = c.load_head-head.ensures in
+    others_more p.view y c.cut_from.new.pass.view c.args.at
+    (others_kept p.view y c.args.at (walks_more p.view x y (walks_more p.view q.view x (walks_head p q c.args.at.node c.args.at.side c.load_head-head.result e.event e.view) c.go_past.ensures.walks)
+    (walks_still x y c.least_of_all-least.ensures.place)))
+    c.cut_from.ensures.others
