@@ -1,4 +1,4 @@
-"""How a record is written as a line of a session, and what the scripts beside it share."""
+"""How a record is written as a line of a session, and what the scripts next to it share."""
 import random
 import re
 import signal
@@ -60,7 +60,7 @@ def print_session(lines, wide=False):
     keeps its keys in a tree that is not balanced: names that are put in rising order make it as deep as it can be.
 
     Prints nothing where there are more lines than a session takes, unless it may be wide: by_ranges splits such a session.
-    The requests behind them count too."""
+    The requests after them count too."""
     lines = [line for line in lines if line]
     random.Random(1).shuffle(lines)
     session = "\n".join(["CLIENT", *lines, ""])

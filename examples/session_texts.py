@@ -1,4 +1,4 @@
-"""How a session, and the text that a run of it wrote, are read by the scripts beside this one.
+"""How a session, and the text that a run of it wrote, are read by the scripts next to this one.
 
 What they cannot use ends the script with one line on standard error, which names the file and its line.
 """

@@ -4,7 +4,7 @@
     tests/documents/where_kind.py NAME
 
 For each enum that has the name as a variant (`Kind` of core_events, `Word`, `Field` and `Part` of index_words) each file is
-printed that speaks of it beside its imports, lowest crate first, with the number of lines. A file of definitions or proofs
+printed that speaks of it besides its imports, lowest crate first, with the number of lines. A file of definitions or proofs
 speaks of it by the name under which it imports it, and in Rust also by `Kind::NAME`. Any other name, such as that of a field
 of a view, of a group in `crates/core_invariant/proofs/Groups.antt` or of a part of the rule, is looked for as it is. Where
 no file has the name, the script ends with status 1.
@@ -52,7 +52,7 @@ def names_in(path, text, enum, name):
 
 
 def lines_with(text, names):
-    """How many lines have one of the names, beside imports and comments."""
+    """How many lines have one of the names, besides imports and comments."""
     found = re.compile("|".join(rf"(?<![\w.:]){re.escape(name)}\b" for name in names))
     lines = (re.sub(r"(--|//).*", "", line) for line in text.splitlines() if not IMPORT.match(line))
     return sum(1 for line in lines if found.search(line))

@@ -40,19 +40,19 @@ After each of the updates a try to settle is held by pass 1 in its first section
 the end of the snapshots one settles. With `--nodes N --entries E` the first pass has so few slots, and still no
 update may be refused. With `--puts` all updates are puts.
 
-With `--visits` one pass of few slots puts and removes one key by turns, R requests, while readers come and go: each
+With `--visits` one pass of few slots puts and removes one key alternately, R requests, while readers come and go: each
 opens a snapshot, stays in it for T turns, reads it and closes it, T turns between two visits, until the requests are
 made. Once they are gone the pass makes one more update. An update is refused only where a reader was at a visit at
 some time of the call, by the readers' own counts of visits begun and ended. How many were refused is reported.
 
 With `--few` P passes of few slots make updates next to such readers. When all is done one pass after
-another puts each key and removes it, and each reports which of its slots are free. Beside the history this is checked:
+another puts each key and removes it, and each reports which of its slots are free. Besides the history this is checked:
 
 - no slot is free in two places, or twice, and no slot is free that the table has not;
 - as many nodes are not free as the map has keys. It is empty at the end, but where the passes that own slots own too
   few to empty it: such a run counts as not emptied, and where no run is emptied that is a failure;
 - where the map is empty exactly two entries are not free, which the one bundle left keeps: that of the last removal,
-  and the one that it found, of the put before it. These two updates are of one pass that nobody works beside, so the
+  and the one that it found, of the put before it. These two updates are of one pass, and no other works meanwhile, so the
   removal cuts what comes after it.
 
 How many updates were refused is reported, how many of them while a reader was at a visit, and fewer than M updates in
@@ -78,8 +78,8 @@ fifth not at all.
 With `--waits` a pass stops in the middle of an update, with its entries in front of their bundles, and gives the
 processor away TURNS times, while eight others look for a pair there and seven put the same key. All are on one
 processor, and the run may use S seconds of it: a pass that waits and keeps the processor for its whole turn uses some
-milliseconds in each of the TURNS, and one that lets the others run next to nothing. What each found or did is as
-worked by hand.
+milliseconds in each of the TURNS, and one that lets the others run next to nothing. What each found or did is
+compared with handwritten answers.
 """
 import argparse
 import os

@@ -5,7 +5,7 @@
 
 Up to four passes put, remove and look up keys at once; this script chooses what each is asked for and whose
 turn it is. PROGRAM searches for the key of each update on plain links, makes a plan of what it finds again
-under locks, makes the plan's events, and tells what each try has come to, and where it has cut a bundle. A
+under locks, makes the plan's events, and reports how each try has ended, and where it has cut a bundle. A
 try that was validated must raise. One that was not must have raised the count of its cause by one, and no
 other count. Where the search has not found a key that is to be removed, a snapshot tells whether it is
 absent. Each look-up in a snapshot must find what the map had at its number, whatever was cut meanwhile. At
@@ -206,7 +206,7 @@ class Model:
     def look_up(self, number, line, key, at, found, counts):
         ask("get %d" % key == self.gets[number].pop(0), line)
         ask(found == self.maps[at].get(key), line)
-        # A later look-up of a snapshot comes to links that it remembers, and may find newer heads there.
+        # A later look-up of a snapshot reaches links that it remembers, and may find newer heads there.
         old, first_one = self.counts[number], self.snapshots[number] != at
         self.snapshots[number] = at
         ask(counts["busy"] == old["busy"] and counts["waits"] >= old["waits"], line)

@@ -3,7 +3,7 @@
 
     tests/program/broken_streams.py PROGRAM
 
-The session is the first of rows.txt, whose whole text stands there, worked out by hand.
+The session is the first of rows.txt, whose whole text stands there, handwritten.
 
 - Pieces: the text does not depend on how many bytes a read gives.
 - Reads: the input fails after each piece, also after the last one. Nothing is written then.

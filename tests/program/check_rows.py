@@ -143,7 +143,7 @@ TRUNCATED = (
     b'"KeyCount":1,"Line":4,"MaxKeys":1,"NextContinuationToken":"MkswMDAwMDAwMGE","Prefix":"","Status":200}\n'
 )
 
-# what it shows, the words behind `check`, the session, the text, and the first wrong line
+# what it shows, the words after `check`, the session, the text, and the first wrong line
 CLAUSES = [
     (
         "no HEAD is refused for want of slots",

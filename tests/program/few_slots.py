@@ -3,13 +3,13 @@
 
     tests/program/few_slots.py PROGRAM [--runs N]
 
-Each text is checked to be that of a legal run, by legal_model.py. Ended with status 1 where one is not, or where
+Each text is checked to be that of a legal run, by legal_model.py. It ends with status 1 where one is not, or where
 - a client that puts and deletes one key in two slots, alone or next to clients that only list, is refused;
 - the same client in one slot is not refused after its first put;
 - a client that replaces one key next to one that lists takes more than three times as long with two slots as with ample
   ones, or is refused;
 - clients that put and delete two keys of their own each, 10,000 lines in no fixed order, are refused more often than once
-  in 500 lines, or one of them in its last tenth: four of three, four and eight slots, alone and beside clients that list
+  in 500 lines, or one of them in its last tenth: four of three, four and eight slots, alone and next to clients that list
   and then end, and 32 of four slots;
 - a client that puts four names again and again, next to one that deletes them all the while, with a pool of eight slots
   each, is refused more often than once in 500 puts;
@@ -66,7 +66,7 @@ def legal_text(program, session, slots):
 
 
 def refused(program, session, slots):
-    """How many requests are refused for want of slots."""
+    """How many requests are refused for lack of slots."""
     return legal_text(program, session, slots).count(REFUSED)
 
 

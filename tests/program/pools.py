@@ -8,9 +8,9 @@ Of each pair one client puts names of its own, with so many looks after each; th
 again, with a quarter as many looks after each sweep. A look takes some ten microseconds, so each client has many turns on
 its processor: else most clients would have put all their names before the other one of the pair runs at all. The runs
 without a pool and with one take turns. Each text is checked to be that of a legal run by the program's own `check --slots
-N`, and one in so many by legal_runs.py (with 0 none), which takes a hundred times as long. Told is how many requests are
-refused because slots ran out. Ended with status 1 where a text is not legal, or where with a pool more than that share of those
-without are refused.
+N`, and one in so many by legal_runs.py (with 0 none), which takes a hundred times as long. It reports how many requests
+are refused because slots ran out, and ends with status 1 where a text is not legal, or where with a pool more than that
+share of those without are refused.
 """
 import argparse
 import statistics
