@@ -1,6 +1,7 @@
 pub mod FirstByte
 pub mod AskedAll
 pub mod ByNames
+pub mod QueryCauses
 pub mod QueryLaws
 pub mod QueryListings
 pub mod TextLaws
