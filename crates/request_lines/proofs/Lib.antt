@@ -19,6 +19,7 @@ pub mod BlockLaws
 pub mod CheckInputs
 pub mod Rising
 pub mod Sound
+pub mod SoundLines
 pub mod PieceLaws
 pub mod SampleQueries
 pub mod SampleLines

@@ -24,7 +24,8 @@ use Rattle.request_lines.specs.Sample.{sample_name, sample_line, sample_lines, s
 use Rattle.request_lines.specs.SampleSession.{sample_query, sample_record, one_if_put, sample_puts, sample_request, sample_requests, sample_named, sample_recorded, sample_names, sample_records, sample_clients_parts, sample_clients_names, sample_clients_records, sample_session}
 use Rattle.request_lines.proofs.LineCounts.{session_is}
 use Rattle.request_lines.proofs.InputLaws.{IsHalfway, halfway_start, halfway_more, halfway_end}
-use Rattle.request_lines.proofs.Sound.{IsSound, IsSoundSession, sound_start, sound_more, sound_session}
+use Rattle.request_lines.proofs.Sound.{IsSound, IsSoundSession, sound_start, sound_session}
+use Rattle.request_lines.proofs.SoundLines.{sound_more}
 use Rattle.request_lines.proofs.SampleLines.{IsInside, read_by_fields, inside_no_feeds, strip_plain, put_line, delete_line, inside_put, inside_delete, inside_list, name_length, put_reading, delete_reading}
 use Rattle.request_lines.proofs.SampleQueries.{list_line, list_reading}
 
