@@ -1,3 +1,5 @@
+-- Where all updates are a client's, its answers are those of the client alone.
+pub mod AloneAnswers
 -- A client alone has one legal run.
 pub mod OneRun
 -- What an input, its session and its directory determine.

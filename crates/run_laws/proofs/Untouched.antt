@@ -38,7 +38,7 @@ use Rattle.sample_laws.proofs.OwnNames.{whole, asked_all, all_from_get}
 use Rattle.sample_laws.proofs.Alone.{used-le}
 use Rattle.run_laws.specs.Alone.{IsResolved, Outcome, makes, looks, next_on, outcome_on, placed_as, later_listing, AreAlone}
 use Rattle.run_laws.specs.Untouched.{KeepsTo, LeavesAlone, IsUntouched, UntouchedLaw}
-use Rattle.run_laws.proofs.OneRun.{front_behind}
+use Rattle.run_laws.proofs.AloneAnswers.{front_behind}
 
 -- ---- a page rests on the pairs under its prefix
 
