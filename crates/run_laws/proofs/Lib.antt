@@ -4,6 +4,8 @@ pub mod AloneAnswers
 pub mod OneRun
 -- What an input, its session and its directory determine.
 pub mod Determined
+-- Small sessions: runs that are not legal, since an answer does not fit the updates.
+pub mod RefusedRows
 -- Small sessions: runs that are legal, and similar runs that are not.
 pub mod RunRows
 -- Common prefixes, `start-after` and truncated pages.
