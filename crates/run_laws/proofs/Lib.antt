@@ -12,5 +12,7 @@ pub mod RunRows
 pub mod PageLaws
 -- A legal run does not depend on the numbers of the clients.
 pub mod Renamed
+-- Requests that keep to some keys: their pages, listings and updates.
+pub mod KeptKeys
 -- A client on names that no other client changes.
 pub mod Untouched
