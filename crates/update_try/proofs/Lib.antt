@@ -9,6 +9,7 @@ pub mod Outs
 pub mod Fronts
 pub mod Raised
 pub mod LockedBundles
+pub mod PruneWalks
 pub mod Pruned
 pub mod OnlyCuts
 pub mod FreeSlots

@@ -57,7 +57,8 @@ use Rattle.update_try.specs.Walked.{HoldsPart, KeepsHeads, KeepsNexts}
 use Rattle.update_try.specs.declared.pruning.Stop.{Stop}
 use Rattle.update_try.proofs.FoundHeads.{heads_found, heads_more, heads_numbered, heads_still}
 use Rattle.update_try.proofs.LockedBundles.{part_kept}
-use Rattle.update_try.proofs.Pruned.{unmarked_locked, walk_kept, walk_lower, walked_kept}
+use Rattle.update_try.proofs.PruneWalks.{walk_kept, walk_lower, walked_kept}
+use Rattle.update_try.proofs.Pruned.{unmarked_locked}
 
 -- what was found stays: along the way, and at last
 pub walks_same : (v : View) → KeepsWalks v v

@@ -3,10 +3,11 @@ use Rattle.index_words.specs.declared.view.View.{View}
 use Rattle.key_map.specs.Lists.{count}
 use Rattle.core_events.specs.CutMoves.{cut_view}
 use Rattle.table_steps.specs.Cuts.{CanCut}
-use Rattle.update_try.proofs.Pruned.{can_cut, cut_back, cut_least, cut_update, least_more, update_more}
+use Rattle.update_try.proofs.PruneWalks.{least_more, update_more}
+use Rattle.update_try.proofs.Pruned.{can_cut, cut_back, cut_least, cut_update}
 use Rattle.update_try.specs.Pruning.{EndsAtLeast, KeepsOthers}
 use Rattle.update_try.proofs.ShortBundles.{cut_ends, cut_others, others_kept, others_more, stop_chain, walks_held}
-use Rattle.update_try.proofs.Pruned.{holds_still, walk_kept, walked_kept}
+use Rattle.update_try.proofs.PruneWalks.{holds_still, walk_kept, walked_kept}
 use Rattle.update_try.proofs.pruning.cut_behind.Goals as goal
 
 pub cut-requires : goal.cut-requires
