@@ -15,6 +15,8 @@ pub mod OnlyCuts
 pub mod FreeSlots
 -- The newest entries of bundles of locked nodes.
 pub mod FoundHeads
+-- What was found of bundles stays found, also in a cut of others.
+pub mod KeptWalks
 -- What is known of bundles that were cut.
 pub mod ShortBundles
 pub mod Done
