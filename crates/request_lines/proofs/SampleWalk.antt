@@ -154,8 +154,7 @@ request_within n client i so_far command few before most clients requests entrie
 -- a line with this command is the next request of the client, where the counts, the request, its name and its record
 -- that the command adds are those of this request
 step_by : (bytes text : List ℕ) (n client i : ℕ) (more : List ℕ) (p : Progress) (command : Command) → client < 4 → i < n → n ≤ 40000 → IsInside text → 0 < length text
-    → reading_of text ≡ Ok command → IsAt n client i p
-    → (counted p.counts command).clients ≡ p.counts.clients
+    → reading_of text ≡ Ok command → IsAt n client i p → (counted p.counts command).clients ≡ p.counts.clients
     → (counted p.counts command).requests ≡ p.counts.requests + 1
     → (counted p.counts command).puts ≡ p.counts.puts + one_if_put i
     → (counted p.counts command).entries ≡ p.counts.entries + entries_at i
