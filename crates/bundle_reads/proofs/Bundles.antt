@@ -63,7 +63,8 @@ module _ (v : View) (t : ℕ) (reads : InsideAt v t) (known : SectionReader v t)
 
   module _ (s n number : ℕ) (w : View) (h : Happened v.layout (event_at v.layout s LoadHead (NodeWord (Head link.side) link.node) 0) v n w) (is : w ≡ head_loaded v link.node link.side n number) (low : n ≤ v.layout.entries) where
     head_word : memory v.layout h.words (NodeWord (Head link.side) link.node) ≡ n
-    head_word = happened_word v.layout (event_at v.layout s LoadHead (NodeWord (Head link.side) link.node) 0) v w n (NodeWord (Head link.side) link.node) (node_there v.layout link.node (link_high v t link.node link.side known is_link)) refl tt h
+    head_word = happened_word v.layout (event_at v.layout s LoadHead (NodeWord (Head link.side) link.node) 0) v w n
+        (NodeWord (Head link.side) link.node) (node_there v.layout link.node (link_high v t link.node link.side known is_link)) refl tt h
 
     abbrev head_finds : ReadsTree (table v.layout h.words h.views) v t
     head_finds = finds v.layout h.words h.views h.rule s v h.seat t reads

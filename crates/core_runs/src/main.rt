@@ -11,6 +11,7 @@ mod rows;
 mod shown;
 mod table;
 mod turns;
+mod updates;
 mod words;
 
 use core_rule::{RunError, State, run_of};

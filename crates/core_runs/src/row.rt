@@ -1,6 +1,6 @@
 // What a seat does in a row of a test, read from its text: words between single spaces.
 use crate::reading::{change_of, kind_of, next_u32, next_u64, update_of};
-use crate::table::{NewLink, NewNode, Turn};
+use crate::updates::{NewLink, NewNode, Turn};
 use crate::words::{LinkName, address_of, link_named};
 use core_rule::{Event, Kind};
 use index_words::{Change, Layout, TreeNode};

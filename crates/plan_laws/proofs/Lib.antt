@@ -27,7 +27,10 @@ pub mod Prunes
 pub mod PlainLinks
 -- A removal ends in two halves around its wait.
 pub mod PartedHeld
+-- A removal with a far successor ends in two halves around its wait: the first half, and the wait.
 pub mod Parting
+-- After the wait the far successor is marked and unlinked.
+pub mod FarUnlinks
 -- What follows the raise.
 pub mod Finals
 -- What the answer of an update needs.

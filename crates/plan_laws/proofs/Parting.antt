@@ -1,5 +1,5 @@
--- A removal with a far successor ends in two halves around its wait.
-use Rattle.std.proofs.Common.{◌≡◌, ℕ, zero, suc, ◌+◌, ◌<◌, ◌≤◌, List, [], ◌∷◌, ◌++◌, length, map, Bool, true, false, not, cond, eqb, ◌&&◌, refl, ap, sym, ◌∙◌, subst, arith, Option, Some, None, is_some}
+-- A removal with a far successor ends in two halves around its wait: the first half, and the wait.
+use Rattle.std.proofs.Common.{◌≡◌, ℕ, ◌+◌, ◌<◌, ◌≤◌, List, [], ◌∷◌, ◌++◌, length, map, Bool, true, false, not, cond, eqb, ◌&&◌, refl, ap, sym, ◌∙◌, subst, arith, Option, Some, None, is_some}
 use Rattle.std.specs.Prelude.{◌==◌}
 use Rattle.std.specs.List.{slice_get, list_any, list_all}
 use Rattle.std.proofs.lemmas.Bool.{and_from}
@@ -21,7 +21,6 @@ use Rattle.core_events.specs.PlainMoves.{link_known_at, tag_known_at, link_set, 
 use Rattle.core_events.specs.PlainNeeds.{sets_others, unlinks_at}
 use Rattle.core_events.specs.UpdateNeeds.{held_at}
 use Rattle.core_events.specs.Waits.{is_waiting_for, is_waiting, keeps_lock, looked_waiting}
-use Rattle.core_laws.specs.PlainNeeds.{MayUnlink}
 use Rattle.core_laws.specs.ViewNeeds.{IsKnownMarked}
 use Rattle.core_updates.specs.declared.plan.Front.{Front}
 use Rattle.core_updates.specs.declared.plan.JoinPlan.{JoinPlan}
@@ -29,21 +28,18 @@ use Rattle.core_updates.specs.declared.plan.Plan.TheVariants.{Join}
 use Rattle.core_updates.specs.declared.plan.PlanSlots.{PlanSlots}
 use Rattle.core_updates.specs.Plans.{locks_of, fronts_of, or_none, sets_of, set_by, unlinks_of}
 use Rattle.core_updates.specs.SetLinks.{set_of, nulls_of}
-use Rattle.plan_laws.specs.Parting.{copy_set, far_set, far_unlinking, kept_locks, far_locks, IsFar, IsParting, StartPartingLaw, LinkCopyLaw, LoadFarTagLaw, UnlockUpperLaw, LeavePartedLaw, LookPartedLaw, MarkFarLaw, UnlinkFarLaw}
+use Rattle.plan_laws.specs.Parting.{copy_set, far_set, far_unlinking, kept_locks, far_locks, IsFar, IsParting, StartPartingLaw, LinkCopyLaw, LoadFarTagLaw, UnlockUpperLaw, LeavePartedLaw, LookPartedLaw}
 use Rattle.core_updates.proofs.HeldOnce.{held-item}
 use Rattle.plan_laws.proofs.HeldMaps.{mark-node, link-node, link-mark, tag-node, tag-mark, tag-is}
 use Rattle.plan_laws.proofs.Items.{map-keeps}
 use Rattle.plan_laws.proofs.Kept.{found-at, held-maps}
-use Rattle.plan_laws.proofs.PartedHeld.{held-others, link-tag, mark-tag, mark-other, known-same, known-map, known-marks, known-first, one-link, none-set, none-owed, keeps-both, both-marked, clash}
-use Rattle.plan_laws.proofs.PlainLinks.{slots-stay, marks-stay, same-node, own-side, sets-first, sets-rest, owes-first, tags-rest, no-links}
+use Rattle.plan_laws.proofs.PartedHeld.{held-others, mark-other, known-same, known-map, known-first, one-link, none-set, none-owed, keeps-both, clash}
+use Rattle.plan_laws.proofs.PlainLinks.{slots-stay, same-node, sets-first, sets-rest}
 use Rattle.plan_laws.proofs.Releases.{first-gone, others-every}
 
--- the fronts of the two links, without their entries
+-- the front of the link to the copy, without its entry
 abbrev copy-front : JoinPlan → ℕ → Front
 copy-front p copy = record { at = p.at; entry = 0; child = copy }
-
-abbrev far-front : JoinPlan → Front
-far-front p = record { at = p.next.at; entry = 0; child = p.next.right }
 
 -- different numbers of a list
 first-two : (a b : ℕ) (rest : List ℕ) → count b (a ∷ rest) ≤ 1 → 0 < count b rest → eqb a b ≡ false
@@ -53,7 +49,7 @@ first-two a b rest le some = by (eqb a b) le
     by true h = absurd (omega (arith, h, some))
     by false h = refl
 
-swapped : (a b : ℕ) → eqb a b ≡ false → eqb b a ≡ false
+pub swapped : (a b : ℕ) → eqb a b ≡ false → eqb b a ≡ false
 swapped a b is = grind (arith, nat_tests)
 
 -- with a far successor
@@ -341,146 +337,3 @@ look_parted v n p tag other parted ne there =
   where
     own : (a b : ℕ) → Some a ≡ Some b → a ≡ b
     own a b is = cc
-
--- a locked node is found
-found-held : (k : ℕ) (hs : List HeldNode) → 0 < count k (held_slots hs) → (h : HeldNode) × (held_at k hs ≡ Some h)
-found-held k [] some = absurd (omega (arith, some))
-found-held k (x ∷ hs) some = by (eqb x.node k) refl some (λ more. found-held k hs more)
-  where
-    by : (b : Bool) → eqb x.node k ≡ b → 0 < cond b 1 0 + count k (held_slots hs) → (0 < count k (held_slots hs) → (h : HeldNode) × (held_at k hs ≡ Some h))
-        → (h : HeldNode) × (held_at k (x ∷ hs) ≡ Some h)
-    by true e some rest = (x, ap (λ c. cond c (Some x) (held_at k hs)) e)
-    by false e some rest = let more = rest (omega (arith, some)) in (more.0, ap (λ c. cond c (Some x) (held_at k hs)) e ∙ more.1)
-
--- the two nodes are different ones
-kept-apart : (q s : ℕ) → count q (q ∷ s ∷ []) ≤ 1 → eqb s q ≡ false
-kept-apart q s le = by (eqb s q) (subst (λ x. cond x 1 0 + (cond (eqb s q) 1 0 + 0) ≤ 1) (same-node q) le)
-  where
-    by : (x : Bool) → 1 + (cond x 1 0 + 0) ≤ 1 → x ≡ false
-    by true h = absurd (omega (arith, h))
-    by false h = refl
-
-second-counts : (a b : ℕ) → 0 < count b (a ∷ b ∷ [])
-second-counts a b = subst (λ x. 0 < cond (eqb a b) 1 0 + (cond x 1 0 + 0)) (sym (same-node b)) (omega arith)
-
-pub mark_far : MarkFarLaw
-mark_far v n p tag parted =
-    let h = parted.parting in
-    let q : ℕ = p.next.at.node in
-    let s : ℕ = p.next.node in
-    let f = mark_known s 1 in
-    let locked : 0 < count s (held_slots v.held.nodes) = subst (λ ks. 0 < count s ks) (sym h.locked) (second-counts q s) in
-    let off : eqb q s ≡ false = swapped s q (kept-apart q s (h.once q)) in
-    let other : eqb h.unmarked.node.node s ≡ false = ap (λ k. eqb k s) (found-at q h.unmarked.node v.held.nodes h.unmarked.at).node_is ∙ off in
-    let here = found-held s v.held.nodes locked in
-    record {
-      may = record { locked = locked; taken = subst (λ ks. 0 < count s ks) (sym h.taken) (second-counts p.node s) };
-      parted = record {
-        parting = record {
-          live = h.live;
-          own = h.own;
-          word = h.word;
-          once = h.once;
-          locked = map-keeps (λ (x : HeldNode). x.node) f (mark-node s 1) v.held.nodes ∙ h.locked;
-          raised = h.raised;
-          taken = h.taken;
-          idle = h.idle;
-          marked = known-marks s v.update v.held.nodes h.marked;
-          unset = h.unset;
-          owed = h.owed;
-          unlinking = h.unlinking;
-          unmarked = record {
-            node = f h.unmarked.node;
-            at = held-maps f (mark-node s 1) q h.unmarked.node v.held.nodes h.unmarked.at;
-            is = mark-other s 1 h.unmarked.node other ∙ h.unmarked.is;
-          };
-        };
-        tagged = record {
-          node = f parted.tagged.node;
-          at = held-maps f (mark-node s 1) q parted.tagged.node v.held.nodes parted.tagged.at;
-          is = mark-tag s 1 p.next.at.side parted.tagged.node ∙ parted.tagged.is;
-        };
-      };
-      known = record {
-        node = f here.0;
-        at = held-maps f (mark-node s 1) s here.0 v.held.nodes here.1;
-        is = ap (λ b. (cond b (record here.0 { mark = Some 1 }) here.0).mark) (ap (λ k. eqb k s) (found-at s here.0 v.held.nodes here.1).node_is ∙ same-node s);
-      };
-    }
-
-pub unlink_far : UnlinkFarLaw
-unlink_far v n p tag parted known passed =
-    let h = parted.parting in
-    let q : ℕ = p.next.at.node in
-    let side : Side = p.next.at.side in
-    let child : ℕ = p.next.right in
-    let x : Unlinking = far_unlinking p in
-    let f : Front = far-front p in
-    let w : View = link_set v q side child in
-    let here : unlinks_at q side (Some x) ≡ true = and_from (eqb q q) (same_side side side) (same-node q) (own-side side) in
-    let others : held_slots (map (link_known_at q side child) v.held.nodes) ≡ kept_locks p
-    = slots-stay (link_known_at q side child) (link-node q child side) v.held.nodes ∙ h.locked in
-    let unset : w.update.unset ≡ [] = no-links w.update.unset (sets-rest v.update.unset f [] h.unset tt) in
-    let none : w.update.unlinking ≡ None = ap (still_unlinking q side) h.unlinking ∙ ap (λ b. cond b None (Some x)) here in
-    let marked : Every (λ (y : HeldNode). 0 < count y.node v.update.taken → y.mark ≡ Some 1) v.held.nodes
-    = both-marked x v.update v.held.nodes known.node h.locked (kept-apart q p.next.node (h.once q)) h.unlinking known.at known.is h.marked in
-    let marked' : Every (λ (y : HeldNode). 0 < count y.node v.update.taken → y.mark ≡ Some 1) w.held.nodes
-    = marks-stay (link_known_at q side child) (link-node q child side) v.update.taken (link-mark q child side) v.held.nodes marked in
-    let at = held-maps (link_known_at q side child) (link-node q child side) q parted.tagged.node v.held.nodes parted.tagged.at in
-    record {
-      may = record {
-        locked = subst (λ ks. 0 < count q ks) (sym h.locked) (subst (λ b. 0 < cond b 1 0 + count q (p.next.node ∷ [])) (sym (same-node q)) (omega arith));
-        done = h.idle;
-        marked = h.marked;
-        unset = sets-first v.update.unset f [] h.unset;
-        order = ap (λ b. not (unlinks_at q side v.update.unlinking && b)) (one-link (far_set p) v.update.unset h.unset) ∙ not-and
-            (unlinks_at q side v.update.unlinking);
-        waited = λ u is at_it.
-            let same : x ≡ u = one x u (sym h.unlinking ∙ is) in
-            subst (λ (y : Unlinking). MayUnlink v y) same (record { node = known.node; locked = known.at; marked = known.is; passed = passed });
-      };
-      null = λ zero_child.
-          let owed : w.update.owed ≡ record { node = q; side = side } ∷ []
-          = h.owed ∙ ap (λ c. cond (eqb c 0) (record { node = q; side = side } ∷ []) []) zero_child in
-          record {
-            may = record {
-              node = link_known_at q side child parted.tagged.node;
-              locked = at;
-              loaded = link-tag q child side side parted.tagged.node ∙ parted.tagged.is;
-              owed = owes-first q side w.update.owed [] owed;
-            };
-            released = record {
-              live = h.live;
-              own = h.own;
-              word = h.word;
-              once = h.once;
-              locked = slots-stay (tag_known_at q side (tag + 1)) (tag-node q (tag + 1) side) w.held.nodes ∙ others;
-              done = h.idle;
-              marked = marks-stay (tag_known_at q side (tag + 1)) (tag-node q (tag + 1) side) v.update.taken (tag-mark q (tag + 1) side) w.held.nodes marked';
-              set = (unset, tags-rest q side w.update.owed [] owed refl, none);
-              ended = λ e. cc;
-            };
-          };
-      some = λ ne. record {
-        live = h.live;
-        own = h.own;
-        word = h.word;
-        once = h.once;
-        locked = others;
-        done = h.idle;
-        marked = marked';
-        set = (unset, h.owed ∙ ap (λ b. cond b (record { node = q; side = side } ∷ []) []) (above child ne), none);
-        ended = λ e. cc;
-      };
-    }
-  where
-    one : (a b : Unlinking) → Some a ≡ Some b → a ≡ b
-    one a b is = cc
-
-    not-and : (b : Bool) → not (b && false) ≡ true
-    not-and true = refl
-    not-and false = refl
-
-    above : (a : ℕ) → ¬ (a ≡ 0) → eqb a 0 ≡ false
-    above zero ne = absurd (ne refl)
-    above (suc a) ne = grind (arith, nat_tests)

@@ -1,6 +1,7 @@
 pub mod FirstByte
 pub mod AskedAll
 pub mod ByNames
+pub mod QueryCauses
 pub mod QueryLaws
 pub mod QueryListings
 pub mod TextLaws
@@ -18,6 +19,7 @@ pub mod BlockLaws
 pub mod CheckInputs
 pub mod Rising
 pub mod Sound
+pub mod SoundLines
 pub mod PieceLaws
 pub mod SampleQueries
 pub mod SampleLines

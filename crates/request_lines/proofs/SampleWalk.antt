@@ -24,7 +24,8 @@ use Rattle.request_lines.specs.Sample.{sample_name, sample_line, sample_lines, s
 use Rattle.request_lines.specs.SampleSession.{sample_query, sample_record, one_if_put, sample_puts, sample_request, sample_requests, sample_named, sample_recorded, sample_names, sample_records, sample_clients_parts, sample_clients_names, sample_clients_records, sample_session}
 use Rattle.request_lines.proofs.LineCounts.{session_is}
 use Rattle.request_lines.proofs.InputLaws.{IsHalfway, halfway_start, halfway_more, halfway_end}
-use Rattle.request_lines.proofs.Sound.{IsSound, IsSoundSession, sound_start, sound_more, sound_session}
+use Rattle.request_lines.proofs.Sound.{IsSound, IsSoundSession, sound_start, sound_session}
+use Rattle.request_lines.proofs.SoundLines.{sound_more}
 use Rattle.request_lines.proofs.SampleLines.{IsInside, read_by_fields, inside_no_feeds, strip_plain, put_line, delete_line, inside_put, inside_delete, inside_list, name_length, put_reading, delete_reading}
 use Rattle.request_lines.proofs.SampleQueries.{list_line, list_reading}
 
@@ -153,8 +154,7 @@ request_within n client i so_far command few before most clients requests entrie
 -- a line with this command is the next request of the client, where the counts, the request, its name and its record
 -- that the command adds are those of this request
 step_by : (bytes text : List ℕ) (n client i : ℕ) (more : List ℕ) (p : Progress) (command : Command) → client < 4 → i < n → n ≤ 40000 → IsInside text → 0 < length text
-    → reading_of text ≡ Ok command → IsAt n client i p
-    → (counted p.counts command).clients ≡ p.counts.clients
+    → reading_of text ≡ Ok command → IsAt n client i p → (counted p.counts command).clients ≡ p.counts.clients
     → (counted p.counts command).requests ≡ p.counts.requests + 1
     → (counted p.counts command).puts ≡ p.counts.puts + one_if_put i
     → (counted p.counts command).entries ≡ p.counts.entries + entries_at i

@@ -1,5 +1,7 @@
 -- A try to settle.
 pub mod SettleSteps
+-- Two looks of a try to settle at another pass.
+pub mod SettleLooks
 -- The calls that update the map.
 pub mod CallSteps
 pub mod CallsMade

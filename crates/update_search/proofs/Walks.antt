@@ -160,7 +160,8 @@ module _ (laws : SearchLaws) (u : View) (first : Walk) (on : IsOnWalk u first) w
                   from = on.above;
                   key = here;
                   above = subst (λ (o : Option Turn). IsOver (turn_key o) here) turns_right walk_between.over;
-                  place = ap (λ (u : View). u.reading.place) tagged ∙ ap (λ (r : Reading). r.place) (went_on z (link_of walk.node Left) turns_on walk_on x w went) ∙ ap (place_after walk.node Left) none_left ∙ ap (λ k. AtGap k Left) (sym node_is);
+                  place = ap (λ (u : View). u.reading.place) tagged ∙ ap (λ (r : Reading). r.place) (went_on z (link_of walk.node Left) turns_on walk_on x w went)
+                      ∙ ap (place_after walk.node Left) none_left ∙ ap (λ k. AtGap k Left) (sym node_is);
                   left = turns.left ∙ ap (λ k. Some (record { node = k; key = here })) (sym node_is);
                   right = turns.right ∙ turns_right;
                   at = subst (λ (l : Link). RemembersLink y l found.node) (sym at_is) (subst (RemembersLink y walk.at) (sym node_is) (behind.looks.link walk.at walk.node way.come.link));

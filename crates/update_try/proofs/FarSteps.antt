@@ -23,7 +23,8 @@ use Rattle.plan_laws.specs.PlainLinks.{HasNotSearched, SetsAtOnce}
 use Rattle.plan_laws.specs.Prunes.{HasNumbered}
 use Rattle.plan_laws.specs.Releases.{IsGivingBack}
 use Rattle.plan_laws.proofs.PlainLinks.{tag-keeps as tag_keeps}
-use Rattle.plan_laws.proofs.Parting.{start_parting, link_copy, load_far_tag, unlock_upper, leave_parted, mark_far, unlink_far}
+use Rattle.plan_laws.proofs.Parting.{start_parting, link_copy, load_far_tag, unlock_upper, leave_parted}
+use Rattle.plan_laws.proofs.FarUnlinks.{mark_far, unlink_far}
 use Rattle.plan_laws.proofs.Releases.{all-done, known-marked, unlock_step}
 use Rattle.table_steps.specs.Passes.{AtRest}
 use Rattle.update_try.specs.declared.parting.Parted.{Parted}

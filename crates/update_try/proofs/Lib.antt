@@ -9,11 +9,14 @@ pub mod Outs
 pub mod Fronts
 pub mod Raised
 pub mod LockedBundles
+pub mod PruneWalks
 pub mod Pruned
 pub mod OnlyCuts
 pub mod FreeSlots
 -- The newest entries of bundles of locked nodes.
 pub mod FoundHeads
+-- What was found of bundles stays found, also in a cut of others.
+pub mod KeptWalks
 -- What is known of bundles that were cut.
 pub mod ShortBundles
 pub mod Done

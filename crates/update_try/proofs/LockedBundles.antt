@@ -59,10 +59,25 @@ part_ends v node head (e ∷ es) part = (part.0, part.1, (part.2.0, part.2.1, pa
 pub part_kept : (v w : View) (node head entry : ℕ) (es : List ℕ) → KeepsNexts v w → HoldsPart v node head es entry → HoldsPart w node head es entry
 part_kept v w node head entry [] keeps part = part
 part_kept v w node head entry (e ∷ es) keeps part =
-    let h = part.2.1 in
-    (part.0, part.1, (part.2.0, record { place = h.place; item = h.item; at = keeps h.place h.item h.at; node_is = h.node_is; entry_is = h.entry_is; next_is = h.next_is }, part_kept v w node part.2.0 entry es keeps part.2.2))
+    let h = part.2.1 in (
+      part.0,
+      part.1,
+      (
+        part.2.0,
+        record {
+          place = h.place;
+          item = h.item;
+          at = keeps h.place h.item h.at;
+          node_is = h.node_is;
+          entry_is = h.entry_is;
+          next_is = h.next_is;
+        },
+        part_kept v w node part.2.0 entry es keeps part.2.2,
+      ),
+    )
 
-part_more : (v : View) (node head entry next : ℕ) (es : List ℕ) → HoldsPart v node head es entry → 0 < entry → HoldsNext v node entry next → HoldsPart v node head (es ++ entry ∷ []) next
+part_more : (v : View) (node head entry next : ℕ) (es : List ℕ) → HoldsPart v node head es entry → 0 < entry → HoldsNext v node entry next
+    → HoldsPart v node head (es ++ entry ∷ []) next
 part_more v node head entry next [] part some h = (part, some, (next, h, refl))
 part_more v node head entry next (e ∷ es) part some h = (part.0, part.1, (part.2.0, part.2.1, part_more v node part.2.0 entry next es part.2.2 some h))
 
@@ -85,10 +100,12 @@ module _ (v : View) (live : IsLiveView v) where
 
   next_known : (node e next : ℕ) → HoldsNext v node e next → m (Entry Next e) ≡ next
   next_known node e next h =
-      let known : IsNextAt m g.bundles v.held.nodes h.item = every_item (IsNextAt m g.bundles v.held.nodes) v.held.nexts h.place h.item h.at seat.loaded.nexts in
+      let known : IsNextAt m g.bundles v.held.nodes h.item
+      = every_item (IsNextAt m g.bundles v.held.nodes) v.held.nexts h.place h.item h.at seat.loaded.nexts in
       subst (λ d. m (Entry Next d) ≡ next) h.entry_is (known.is ∙ h.next_is)
 
-  loaded_by : (node entry : ℕ) (side : Side) (n : HeldNode) (l : LoadedHead) → IsNodeAt m n → (side_of side n).head ≡ Some l → n.node ≡ node → l.entry ≡ entry → m (Node (Head side) node) ≡ entry
+  loaded_by : (node entry : ℕ) (side : Side) (n : HeldNode) (l : LoadedHead) → IsNodeAt m n → (side_of side n).head ≡ Some l → n.node ≡ node → l.entry ≡ entry
+      → m (Node (Head side) node) ≡ entry
   loaded_by node entry Left n l known is same entry_is =
       subst (λ k. m (Node (Head Left) k) ≡ entry) same
       ((subst (λ (o : Option LoadedHead). IfSome o (HeadRight (m (Node (Head Left) n.node)) (λ e. m (Entry Number e)))) is known.left.head).0 ∙ entry_is)
@@ -97,26 +114,31 @@ module _ (v : View) (live : IsLiveView v) where
       ((subst (λ (o : Option LoadedHead). IfSome o (HeadRight (m (Node (Head Right) n.node)) (λ e. m (Entry Number e)))) is known.right.head).0 ∙ entry_is)
 
   pub head_known : (node : ℕ) (side : Side) (entry : ℕ) → HoldsHead v node side entry → m (Node (Head side) node) ≡ entry
-  head_known node side entry h = loaded_by node entry side h.held h.loaded (every_item (IsNodeAt m) v.held.nodes h.place h.held h.at seat.loaded.nodes) h.head h.node_is h.entry_is
+  head_known node side entry h =
+      loaded_by node entry side h.held h.loaded (every_item (IsNodeAt m) v.held.nodes h.place h.held h.at seat.loaded.nodes) h.head h.node_is h.entry_is
 
   -- a part that does not end yet is shorter than the bundle
-  part_short : (node head entry : ℕ) (es bundle : List ℕ) → HoldsPart v node head es entry → 0 < entry → IsChain (λ e. m (Entry Next e)) head bundle → length es < length bundle
+  part_short : (node head entry : ℕ) (es bundle : List ℕ) → HoldsPart v node head es entry → 0 < entry → IsChain (λ e. m (Entry Next e)) head bundle
+      → length es < length bundle
   part_short node head entry [] [] part some chain = absurd (omega (arith, part, some, chain))
   part_short node head entry [] (b ∷ bs) part some chain = omega arith
   part_short node head entry (e ∷ es) [] part some chain = absurd (omega (arith, part.0, part.1, chain))
   part_short node head entry (e ∷ es) (b ∷ bs) part some chain =
       let same : b ≡ e = sym chain.0 ∙ part.0 in
-      let below : IsChain (λ d. m (Entry Next d)) part.2.0 bs = subst (λ k. IsChain (λ d. m (Entry Next d)) k bs) (ap (λ d. m (Entry Next d)) same ∙ next_known node e part.2.0 part.2.1) chain.2 in
+      let below : IsChain (λ d. m (Entry Next d)) part.2.0 bs
+      = subst (λ k. IsChain (λ d. m (Entry Next d)) k bs) (ap (λ d. m (Entry Next d)) same ∙ next_known node e part.2.0 part.2.1) chain.2 in
       omega (arith, part_short node part.2.0 entry es bs part.2.2 some below)
 
   -- what holds of each entry of the bundle holds of the one at which a part ends
-  part_every : (P : ℕ → Type 0) (node head entry : ℕ) (es bundle : List ℕ) → HoldsPart v node head es entry → 0 < entry → IsChain (λ e. m (Entry Next e)) head bundle → Every P bundle → P entry
+  part_every : (P : ℕ → Type 0) (node head entry : ℕ) (es bundle : List ℕ) → HoldsPart v node head es entry → 0 < entry
+      → IsChain (λ e. m (Entry Next e)) head bundle → Every P bundle → P entry
   part_every P node head entry [] [] part some chain all = absurd (omega (arith, part, some, chain))
   part_every P node head entry [] (b ∷ bs) part some chain all = subst P (sym chain.0 ∙ part) all.0
   part_every P node head entry (e ∷ es) [] part some chain all = absurd (omega (arith, part.0, part.1, chain))
   part_every P node head entry (e ∷ es) (b ∷ bs) part some chain all =
       let same : b ≡ e = sym chain.0 ∙ part.0 in
-      let below : IsChain (λ d. m (Entry Next d)) part.2.0 bs = subst (λ k. IsChain (λ d. m (Entry Next d)) k bs) (ap (λ d. m (Entry Next d)) same ∙ next_known node e part.2.0 part.2.1) chain.2 in
+      let below : IsChain (λ d. m (Entry Next d)) part.2.0 bs
+      = subst (λ k. IsChain (λ d. m (Entry Next d)) k bs) (ap (λ d. m (Entry Next d)) same ∙ next_known node e part.2.0 part.2.1) chain.2 in
       part_every P node part.2.0 entry es bs part.2.2 some below all.1
 
   -- the entries of a locked node's bundle have numbers, where the node was found unmarked and the pass has none
@@ -124,30 +146,42 @@ module _ (v : View) (live : IsLiveView v) where
   behind_numbered : (node head entry : ℕ) (es bundle : List ℕ) → HoldsPart v node head es entry → 0 < entry → IsChain (λ e. m (Entry Next e)) head bundle
       → TailWritten (λ e. m (Entry Number e)) bundle → (head ≡ 0) ⊎ (0 < m (Entry Number head)) → 0 < m (Entry Number entry)
   behind_numbered node head entry [] bundle part some chain tail first =
-      elim first as (λ _. 0 < m (Entry Number entry)) [ inl none ↦ absurd (omega (arith, none, part, some)) | inr written ↦ subst (λ e. 0 < m (Entry Number e)) part written ]
+      elim first as (λ _. 0 < m (Entry Number entry)) [
+        | inl none ↦ absurd (omega (arith, none, part, some))
+        | inr written ↦ subst (λ e. 0 < m (Entry Number e)) part written
+      ]
   behind_numbered node head entry (e ∷ es) [] part some chain tail first = absurd (omega (arith, part.0, part.1, chain))
   behind_numbered node head entry (e ∷ es) (b ∷ bs) part some chain tail first =
       let same : b ≡ e = sym chain.0 ∙ part.0 in
-      let below : IsChain (λ d. m (Entry Next d)) part.2.0 bs = subst (λ k. IsChain (λ d. m (Entry Next d)) k bs) (ap (λ d. m (Entry Next d)) same ∙ next_known node e part.2.0 part.2.1) chain.2 in
+      let below : IsChain (λ d. m (Entry Next d)) part.2.0 bs
+      = subst (λ k. IsChain (λ d. m (Entry Next d)) k bs) (ap (λ d. m (Entry Next d)) same ∙ next_known node e part.2.0 part.2.1) chain.2 in
       part_every (λ d. 0 < m (Entry Number d)) node part.2.0 entry es bs part.2.2 some below tail
 
-  pub part_numbered : (at : Link) (head entry : ℕ) (es : List ℕ) → v.update.pending ≡ [] → IsLocked v at.node → HoldsEntry v at head → 0 < entry → HoldsPart v at.node head es entry
+  pub part_numbered : (at : Link) (head entry : ℕ) (es : List ℕ) → v.update.pending ≡ [] → IsLocked v at.node → HoldsEntry v at head → 0 < entry
+      → HoldsPart v at.node head es entry
       → 0 < m (Entry Number entry)
   part_numbered at head entry es idle locked holds some part =
-      let here : IsLive v.layout s.views at.node = held_live v.layout s.views g s.rule.rule.slots s.seat at.node v at_seat (held_holds v at.node locked) (seat.locks at.node locked).0 in
+      let here : IsLive v.layout s.views at.node
+      = held_live v.layout s.views g s.rule.rule.slots s.seat at.node v at_seat (held_holds v at.node locked) (seat.locks at.node locked).0 in
       let bundle = s.rule.rule.bundles at.node here at.side in
       let is : m (Node (Head at.side) at.node) ≡ head = head_known at.node at.side head holds.head in
       let unmarked : IsHeldUnmarked v at.node = record {
         held = holds.head.held;
-        locked = subst (λ k. held_at k v.held.nodes ≡ Some holds.head.held) holds.head.node_is (held_once v.layout s.words s.views s.seat holds.head.place v holds.head.held s.rule s.at holds.head.at);
+        locked =
+            subst (λ k. held_at k v.held.nodes ≡ Some holds.head.held) holds.head.node_is
+            (held_once v.layout s.words s.views s.seat holds.head.place v holds.head.held s.rule s.at holds.head.at);
         unmarked = holds.unmarked;
       } in
-      behind_numbered at.node head entry es (g.bundles.bundle at.side at.node) part some (subst (λ k. IsChain (λ e. m (Entry Next e)) k (g.bundles.bundle at.side at.node)) is bundle.chain) bundle.tail
-      (subst (λ k. (k ≡ 0) ⊎ (0 < m (Entry Number k))) is (head_numbered_law (table v.layout s.words s.views) s.seat v at.node at.side s.rule at_seat idle unmarked))
+      behind_numbered at.node head entry es (g.bundles.bundle at.side at.node) part some
+      (subst (λ k. IsChain (λ e. m (Entry Next e)) k (g.bundles.bundle at.side at.node)) is bundle.chain) bundle.tail
+      (subst (λ k. (k ≡ 0) ⊎ (0 < m (Entry Number k))) is
+      (head_numbered_law (table v.layout s.words s.views) s.seat v at.node at.side s.rule at_seat idle unmarked))
 
-  pub part_few : (at : Link) (head entry : ℕ) (es : List ℕ) → StandsOn v at head entry → 0 < entry → HoldsPart v at.node head es entry → length es < v.layout.entries
+  pub part_few : (at : Link) (head entry : ℕ) (es : List ℕ) → StandsOn v at head entry → 0 < entry → HoldsPart v at.node head es entry
+      → length es < v.layout.entries
   part_few at head entry es on some part =
-      let here : IsLive v.layout s.views at.node = held_live v.layout s.views g s.rule.rule.slots s.seat at.node v at_seat (held_holds v at.node on.locked) (seat.locks at.node on.locked).0 in
+      let here : IsLive v.layout s.views at.node
+      = held_live v.layout s.views g s.rule.rule.slots s.seat at.node v at_seat (held_holds v at.node on.locked) (seat.locks at.node on.locked).0 in
       let bundle = (s.rule.rule.bundles at.node here at.side).chain in
       let chain : IsChain (λ e. m (Entry Next e)) head (g.bundles.bundle at.side at.node)
       = subst (λ k. IsChain (λ e. m (Entry Next e)) k (g.bundles.bundle at.side at.node)) (head_known at.node at.side head on.head_is) bundle in
@@ -175,10 +209,27 @@ module _ (v : View) (at : Link) (head entry : ℕ) (on : StandsOn v at head entr
     view_is : w ≡ then
     view_is =
         gives ∙ ap (λ (p : Place). next_at v p entry next) on.place
-        ∙ ap (λ b. with_place (with_held v v.held.nodes (kept_if b v.held.nexts item)) (AtEntry at.node at.side next None) on.found links) (count-locks at.node v.held.nodes on.locked)
+        ∙ ap (λ b. with_place (with_held v v.held.nodes (kept_if b v.held.nexts item)) (AtEntry at.node at.side next None) on.found links)
+        (count-locks at.node v.held.nodes on.locked)
 
     keeps_then : KeepsPass v then
-    keeps_then = record { layout = refl; joined = refl; number = refl; word = refl; announced = refl; history = refl; section = refl; opened = refl; least = refl; tree = refl; nodes = refl; retired = refl; batch = refl; raised = refl; taken = refl }
+    keeps_then = record {
+      layout = refl;
+      joined = refl;
+      number = refl;
+      word = refl;
+      announced = refl;
+      history = refl;
+      section = refl;
+      opened = refl;
+      least = refl;
+      tree = refl;
+      nodes = refl;
+      retired = refl;
+      batch = refl;
+      raised = refl;
+      taken = refl;
+    }
 
     pub walked_try : KeepsTry v w
     walked_try = subst (KeepsTry v) (sym view_is) (record { pass = keeps_then; free = refl; grown = same-counts v then refl })
@@ -233,10 +284,13 @@ module _ (v : View) (at : Link) (head entry : ℕ) (on : StandsOn v at head entr
     walked_part start es part = part_more w at.node start entry next es (part_kept v w at.node start entry es walked_nexts part) some next_held
 
     pub walked_update : KeepsUpdate v w
-    walked_update = subst (λ (u : View). KeepsUpdate v u) (sym gives) (record { numbered = λ n plan slots h. (prune_step v n plan slots h).next entry next; cutting = λ n nodes c. (cut_step v n nodes c).next entry next })
+    walked_update =
+        subst (λ (u : View). KeepsUpdate v u) (sym gives)
+        (record { numbered = λ n plan slots h. (prune_step v n plan slots h).next entry next; cutting = λ n nodes c. (cut_step v n nodes c).next entry next })
 
     pub walked_least : KeepsLeast v w
-    walked_least = subst (λ (u : View). KeepsLeast v u) (sym view_is) (record { section = refl; least = refl; looked = refl; number = refl; layout = refl; taken = refl })
+    walked_least =
+        subst (λ (u : View). KeepsLeast v u) (sym view_is) (record { section = refl; least = refl; looked = refl; number = refl; layout = refl; taken = refl })
 
     pub walked_list : w.held.nexts ≡ v.held.nexts ++ item ∷ []
     walked_list = ap (λ (u : View). u.held.nexts) view_is

@@ -1,14 +1,11 @@
--- A walk along a bundle that an update changed, the looks at the other passes, and the cut: what each asks, and what it
--- leaves.
-use Rattle.std.proofs.Common.{◌≡◌, ℕ, zero, suc, ◌+◌, ◌<◌, ◌≤◌, ◌⊎◌, List, [], ◌∷◌, ◌++◌, length, map, cond, Bool, true, false, eqb, refl, ap, sym, ◌∙◌, subst, arith, inl, inr, Some, None}
-use Rattle.std.specs.Prelude.{◌==◌, is_some}
+-- A walk along a bundle that an update changed, and the cut: what each asks, and what it leaves.
+use Rattle.std.proofs.Common.{◌≡◌, ℕ, zero, suc, ◌<◌, ◌≤◌, List, [], ◌∷◌, ◌++◌, length, map, cond, Bool, true, false, refl, ap, sym, ◌∙◌, subst, arith, inl, inr, Some, None}
+use Rattle.std.specs.Prelude.{◌==◌}
 use Rattle.std.specs.List.{slice_get}
-use Rattle.std.proofs.lemmas.Bool.{cases_lt}
-use Rattle.std.proofs.lemmas.Bool.Decides.{nat_tests}
 use Rattle.index_words.specs.declared.layout.Layout.{Layout}
 use Rattle.index_words.specs.declared.view.View.{View}
 use Rattle.index_words.specs.declared.view.reading.Place.{Place}
-use Rattle.index_words.specs.declared.view.reading.Place.TheVariants.{Nowhere, Entry as AtEntry, Node as AtNode, Gap}
+use Rattle.index_words.specs.declared.view.reading.Place.TheVariants.{Entry as AtEntry}
 use Rattle.index_words.specs.declared.view.update.Held.{Held}
 use Rattle.index_words.specs.declared.view.update.HeldNode.{HeldNode}
 use Rattle.index_words.specs.declared.view.update.HeldNext.{HeldNext}
@@ -16,32 +13,29 @@ use Rattle.index_words.specs.declared.view.update.Updating.{Updating}
 use Rattle.index_words.specs.declared.word.Part.TheVariants.{Stamp as Number}
 use Rattle.index_words.specs.declared.word.Word.TheVariants.{Entry}
 use Rattle.key_map.specs.Lists.{count, has, IsItem}
-use Rattle.key_map.proofs.Counting.{count-append, count-has, has-count}
-use Rattle.core_grace.specs.Batches.{all_passed, is_number}
+use Rattle.key_map.proofs.Counting.{has-count}
 use Rattle.core_grace.specs.Holds.{held_slots}
-use Rattle.core_grace.specs.Progress.{PassedOthers}
-use Rattle.core_events.specs.Announcing.{ann_loaded, lowered, smaller}
 use Rattle.core_events.specs.CutMoves.{cut_view}
 use Rattle.core_events.specs.LoadMoves.{head_loaded, ts_loaded, next_loaded, next_at, node_known, place_known}
 use Rattle.core_invariant.specs.Readers.{IsLocked}
 use Rattle.core_invariant.proofs.Frames.{one_counted}
-use Rattle.core_laws.specs.ViewNeeds.{MayLookAnn, MayReadHead, MayReadNumber, MayReadNext}
+use Rattle.core_laws.specs.ViewNeeds.{MayReadHead, MayReadNumber, MayReadNext}
 use Rattle.core_laws.specs.Cuts.{HasWalkedAt, HasWalkedTo, MayCut}
 use Rattle.core_trees.specs.declared.link.Link.{Link}
 use Rattle.core_updates.specs.declared.plan.Front.{Front}
 use Rattle.core_updates.specs.declared.plan.Plan.{Plan}
 use Rattle.core_updates.specs.declared.plan.PlanSlots.{PlanSlots}
-use Rattle.core_updates.specs.declared.plan.Plan.TheVariants.{Grow, Replace, Lift, Join}
+use Rattle.core_updates.specs.declared.plan.Plan.TheVariants.{Join}
 use Rattle.core_updates.specs.Plans.{front_of, fronts_of, link_at, next_front_of, next_link_of}
 use Rattle.core_updates.specs.PlanEvents.{HoldsEntry}
 use Rattle.plan_laws.specs.Looks.{IsUnmarked}
-use Rattle.plan_laws.specs.Prunes.{HasNumbered, KeepsPruned}
+use Rattle.plan_laws.specs.Prunes.{HasNumbered}
 use Rattle.plan_laws.proofs.HeldMaps.{number-at}
 use Rattle.plan_laws.proofs.Items.{last-item}
 use Rattle.plan_laws.proofs.Kept.{entry-kept, mapped, slots-kept}
 use Rattle.plan_laws.proofs.Looks.{head-found}
 use Rattle.plan_laws.proofs.PlanFronts.{front_link}
-use Rattle.plan_laws.proofs.Prunes.{cut_step, prune_step, keeps_pruned}
+use Rattle.plan_laws.proofs.Prunes.{cut_step, prune_step}
 use Rattle.table_rule.specs.Homes.{IsLiveView}
 use Rattle.table_rule.specs.Running.{Happened}
 use Rattle.table_rule.proofs.Happens.{happened_word}
@@ -49,7 +43,7 @@ use Rattle.table_steps.specs.Cuts.{CanCut}
 use Rattle.table_steps.specs.Loads.{loading_number}
 use Rattle.table_steps.specs.Passes.{Pass}
 use Rattle.table_steps.specs.Raises.{HoldsChain}
-use Rattle.update_try.specs.Pruning.{KeepsUpdate, KeepsLeast, KeepsPlace, HasLookedAt, IsLeast, IsChanged, HasGonePast, HasStopped}
+use Rattle.update_try.specs.Pruning.{KeepsUpdate, KeepsLeast, KeepsPlace, IsLeast, IsChanged, HasGonePast, HasStopped}
 use Rattle.update_try.specs.Walked.{StandsOn, KeepsNexts}
 use Rattle.update_try.specs.declared.pruning.Least.{Least}
 use Rattle.update_try.specs.declared.pruning.Stop.{Stop}
@@ -57,161 +51,7 @@ use Rattle.update_try.proofs.Fronts.{got_next}
 use Rattle.update_try.proofs.Outs.{front_stays}
 use Rattle.update_try.proofs.FilledWords.{entry_there}
 use Rattle.update_try.proofs.LockedBundles.{part_kept, part_numbered, walked_update_same, walked_nexts, walked_on, walked_held, walked_list, walked_part}
-
-pub pruned_same : (v : View) → KeepsPruned v v
-pruned_same v = record {
-  layout = refl;
-  joined = refl;
-  number = refl;
-  history = refl;
-  free = refl;
-  batch = refl;
-  nodes = refl;
-  entries = omega arith;
-  grown = record { busy = omega arith; waits = omega arith; moves = omega arith };
-  waits = refl;
-}
-
-pub update_same : (v : View) → KeepsUpdate v v
-update_same v = record {
-  numbered = λ n plan slots h. record { numbered = h; keeps = pruned_same v };
-  cutting = λ n nodes c. record { cutting = c; unmarked = λ k is. is; keeps = pruned_same v };
-}
-
-pub update_more : (u v w : View) → KeepsUpdate u v → KeepsUpdate v w → KeepsUpdate u w
-update_more u v w first second = record {
-  numbered = λ n plan slots h.
-      let one = first.numbered n plan slots h in
-      let two = second.numbered n plan slots one.numbered in
-      record { numbered = two.numbered; keeps = keeps_pruned u v w one.keeps two.keeps };
-  cutting = λ n nodes c.
-      let one = first.cutting n nodes c in
-      let two = second.cutting n nodes one.cutting in
-      record { cutting = two.cutting; unmarked = λ k is. two.unmarked k (one.unmarked k is); keeps = keeps_pruned u v w one.keeps two.keeps };
-}
-
-pub least_same : (v : View) → KeepsLeast v v
-least_same v = record { section = refl; least = refl; looked = refl; number = refl; layout = refl; taken = refl }
-
-pub least_more : (u v w : View) → KeepsLeast u v → KeepsLeast v w → KeepsLeast u w
-least_more u v w first second = record {
-  section = second.section ∙ first.section;
-  least = second.least ∙ first.least;
-  looked = second.looked ∙ first.looked;
-  number = second.number ∙ first.number;
-  layout = second.layout ∙ first.layout;
-  taken = second.taken ∙ first.taken;
-}
-
--- one more item
-has_before : (n p : ℕ) (xs : List ℕ) → has n xs ≡ true → has n (xs ++ p ∷ []) ≡ true
-has_before n p xs is = count-has n (xs ++ p ∷ []) (omega (arith, has-count n xs is, count-append n xs (p ∷ [])))
-
-has_last : (p : ℕ) (xs : List ℕ) → has p (xs ++ p ∷ []) ≡ true
-has_last p xs = count-has p (xs ++ p ∷ []) (omega (arith, count-append p xs (p ∷ []), one_counted p 0))
-
-pub place_same : (v : View) → KeepsPlace v v
-place_same v = record { held = refl; place = refl; layout = refl; taken = refl; pending = refl }
-
-pub place_more : (u v w : View) → KeepsPlace u v → KeepsPlace v w → KeepsPlace u w
-place_more u v w first second = record {
-  held = second.held ∙ first.held;
-  place = second.place ∙ first.place;
-  layout = second.layout ∙ first.layout;
-  taken = second.taken ∙ first.taken;
-  pending = second.pending ∙ first.pending;
-}
-
--- a pass does not look at itself
-pub skips_own : (v : View) (other number : ℕ) → is_number other v.number ≡ true → v.reading.least ≡ Some number → HasLookedAt v other number number v
-skips_own v other number own least = record {
-  section = refl;
-  least = least;
-  lower = omega arith;
-  own = refl;
-  looked = λ apart. absurd (clash (is_number other v.number) own apart);
-  before = λ n is. is;
-  place = place_same v;
-}
-  where
-    clash : (b : Bool) → b ≡ true → b ≡ false → ⊥
-    clash true t f = cc
-    clash false t f = cc
-
--- a look at another pass
-module _ (v w : View) (other word number : ℕ) (is : w ≡ ann_loaded v other word) where
-  pub looked_update : KeepsUpdate v w
-  looked_update = subst (λ (u : View). KeepsUpdate v u) (sym is) (record { numbered = λ n plan slots h. (prune_step v n plan slots h).looked other word; cutting = λ n nodes c. (cut_step v n nodes c).looked other word })
-
-  pub looked_other : v.reading.least ≡ Some number → smaller number word ≤ number → HasLookedAt v other number (smaller number word) w
-  looked_other least low = subst (HasLookedAt v other number (smaller number word)) (sym is) (record {
-    section = refl;
-    least = ap (λ o. lowered o word) least;
-    lower = low;
-    own = refl;
-    looked = λ apart. has_last other v.reading.looked;
-    before = λ n before. has_before n other v.reading.looked before;
-    place = record { held = refl; place = refl; layout = refl; taken = refl; pending = refl };
-  })
-
--- it has looked at one more of the others
-pub looked_next : (v w : View) (other number low : ℕ) → HasLookedAt v other number low w → PassedOthers other v.number v.reading.looked → PassedOthers (other + 1) w.number w.reading.looked
-looked_next v w other number low looks before n below apart = by (cases_lt n other)
-  where
-    by : (n < other) ⊎ (other ≤ n) → has n w.reading.looked ≡ true
-    by (inl less) = looks.before n (before n less (subst (λ o. is_number n o ≡ false) looks.own apart))
-    by (inr more) =
-        let same : n ≡ other = omega (arith, more, below) in
-        subst (λ k. has k w.reading.looked ≡ true) (sym same) (looks.looked (subst (λ k. is_number k w.number ≡ false) same apart))
-
--- the announcement of another pass may be looked at
-pub may_look : (v : View) (other : ℕ) → is_number other v.number ≡ false → other < v.layout.passes → is_some v.reading.section ≡ true → MayLookAnn v other
-may_look v other apart there reads = record { other = λ own. absurd (clash (is_number other v.number) apart (ap (is_number other) own ∙ same other)); there = there; reads = reads }
-  where
-    same : (n : ℕ) → eqb n n ≡ true
-    same n = grind (arith, nat_tests)
-
-    clash : (b : Bool) → b ≡ false → b ≡ true → ⊥
-    clash true f t = cc
-    clash false f t = cc
-
--- what is known of a head stays with the locked nodes
-pub holds_still : (v w : View) (at : Link) (head : ℕ) → w.held.nodes ≡ v.held.nodes → HoldsEntry v at head → HoldsEntry w at head
-holds_still v w at head same h = record {
-  head = record {
-    place = h.head.place;
-    held = h.head.held;
-    at = subst (λ (hs : List HeldNode). IsItem hs h.head.place h.head.held) (sym same) h.head.at;
-    node_is = h.head.node_is;
-    loaded = h.head.loaded;
-    head = h.head.head;
-    entry_is = h.head.entry_is;
-  };
-  unmarked = h.unmarked;
-}
-
--- what was found of the entries is kept
-pub walked_kept : (v w : View) (node entry number next : ℕ) → KeepsNexts v w → HasWalkedAt v node entry number next → HasWalkedAt w node entry number next
-walked_kept v w node entry number next keeps at = record { place = at.place; is = keeps at.place (record { node = node; entry = entry; stamp = Some number; next = next }) at.is; written = at.written }
-
-pub walk_kept : (v w : View) (node least from last : ℕ) (front : List ℕ) → KeepsNexts v w → HasWalkedTo v node least from front last → HasWalkedTo w node least from front last
-walk_kept v w node least from last [] keeps walk = walk
-walk_kept v w node least from last (e ∷ es) keeps walk =
-    let past = walk.1 in
-    (walk.0, record { number = past.number; next = past.next; walked = walked_kept v w node e past.number past.next keeps past.walked; above = past.above }, walk_kept v w node least past.next last es keeps walk.2)
-
--- and one entry more
-pub walk_more : (v : View) (node least from last number next : ℕ) (front : List ℕ) → HasWalkedTo v node least from front last → HasWalkedAt v node last number next → least < number
-    → HasWalkedTo v node least from (front ++ last ∷ []) next
-walk_more v node least from last number next [] walk here above = (walk, record { number = number; next = next; walked = here; above = above }, refl)
-walk_more v node least from last number next (e ∷ es) walk here above = (walk.0, walk.1, walk_more v node least walk.1.next last number next es walk.2 here above)
-
--- the least number may fall
-pub walk_lower : (v : View) (node least low from last : ℕ) (front : List ℕ) → low ≤ least → HasWalkedTo v node least from front last → HasWalkedTo v node low from front last
-walk_lower v node least low from last [] le walk = walk
-walk_lower v node least low from last (e ∷ es) le walk =
-    let past = walk.1 in
-    (walk.0, record { number = past.number; next = past.next; walked = past.walked; above = omega (arith, le, past.above) }, walk_lower v node least low past.next last es le walk.2)
+use Rattle.update_try.proofs.PruneWalks.{least_same, holds_still, walked_kept, walk_kept, walk_more, walk_lower, least_still}
 
 -- a node of which something was loaded under its lock is locked
 pub unmarked_locked : (v : View) (k : ℕ) → IsUnmarked v k → IsLocked v k
@@ -226,7 +66,8 @@ pub may_head : (v : View) (at : Link) → IsChanged v at → MayReadHead v at.no
 may_head v at changed = record { inside = changed.inside; reach = inr (inr (unmarked_locked v at.node changed.unmarked)) }
 
 -- the head of a bundle at which the walk begins
-pub begins : (v w : View) (at : Link) (head number least : ℕ) → IsUnmarked v at.node → v.update.pending ≡ [] → w ≡ head_loaded v at.node at.side head number → head ≤ v.layout.entries
+pub begins : (v w : View) (at : Link) (head number least : ℕ) → IsUnmarked v at.node → v.update.pending ≡ [] → w ≡ head_loaded v at.node at.side head number
+    → head ≤ v.layout.entries
     → HasGonePast w at least head [] head
 begins v w at head number least unmarked idle is there =
     let holds : HoldsEntry w at head = subst (λ (u : View). HoldsEntry u at head) (sym is) (head-found v at.node head number at.side unmarked) in
@@ -235,7 +76,14 @@ begins v w at head number least unmarked idle is there =
       walked = refl;
       part = refl;
       stands = record {
-        locked = unmarked_locked w at.node (record { place = holds.head.place; held = holds.head.held; at = holds.head.at; node_is = holds.head.node_is; is = holds.unmarked });
+        locked =
+            unmarked_locked w at.node (record {
+              place = holds.head.place;
+              held = holds.head.held;
+              at = holds.head.at;
+              node_is = holds.head.node_is;
+              is = holds.unmarked;
+            });
         head_is = holds.head;
         found = None;
         place = ap (λ (u : View). u.reading.place) is;
@@ -245,20 +93,34 @@ begins v w at head number least unmarked idle is there =
     }
 
 pub head_update : (v w : View) (at : Link) (head number : ℕ) → w ≡ head_loaded v at.node at.side head number → KeepsUpdate v w
-head_update v w at head number is = subst (λ (u : View). KeepsUpdate v u) (sym is) (record { numbered = λ n plan slots h. (prune_step v n plan slots h).head at.node head number at.side; cutting = λ n nodes c. (cut_step v n nodes c).head at.node head number at.side })
+head_update v w at head number is =
+    subst (λ (u : View). KeepsUpdate v u) (sym is)
+    (record {
+      numbered = λ n plan slots h. (prune_step v n plan slots h).head at.node head number at.side;
+      cutting = λ n nodes c. (cut_step v n nodes c).head at.node head number at.side;
+    })
 
 pub head_least : (v w : View) (at : Link) (head number : ℕ) → w ≡ head_loaded v at.node at.side head number → KeepsLeast v w
-head_least v w at head number is = subst (λ (u : View). KeepsLeast v u) (sym is) (record { section = refl; least = refl; looked = refl; number = refl; layout = refl; taken = refl })
+head_least v w at head number is =
+    subst (λ (u : View). KeepsLeast v u) (sym is) (record { section = refl; least = refl; looked = refl; number = refl; layout = refl; taken = refl })
 
 -- loads of a number and of a next, whatever they find
 pub number_update : (v w : View) (entry number : ℕ) → 0 < number → w ≡ ts_loaded v entry number → KeepsUpdate v w
-number_update v w entry number some is = subst (λ (u : View). KeepsUpdate v u) (sym is) (record { numbered = λ n plan slots h. (prune_step v n plan slots h).number entry number some; cutting = λ n nodes c. (cut_step v n nodes c).number entry number some })
+number_update v w entry number some is =
+    subst (λ (u : View). KeepsUpdate v u) (sym is)
+    (record {
+      numbered = λ n plan slots h. (prune_step v n plan slots h).number entry number some;
+      cutting = λ n nodes c. (cut_step v n nodes c).number entry number some;
+    })
 
 pub number_least : (v w : View) (entry number : ℕ) → w ≡ ts_loaded v entry number → KeepsLeast v w
-number_least v w entry number is = subst (λ (u : View). KeepsLeast v u) (sym is) (record { section = refl; least = refl; looked = refl; number = refl; layout = refl; taken = refl })
+number_least v w entry number is =
+    subst (λ (u : View). KeepsLeast v u) (sym is) (record { section = refl; least = refl; looked = refl; number = refl; layout = refl; taken = refl })
 
 pub next_update : (v w : View) (entry next : ℕ) → w ≡ next_loaded v entry next → KeepsUpdate v w
-next_update v w entry next is = subst (λ (u : View). KeepsUpdate v u) (sym is) (record { numbered = λ n plan slots h. (prune_step v n plan slots h).next entry next; cutting = λ n nodes c. (cut_step v n nodes c).next entry next })
+next_update v w entry next is =
+    subst (λ (u : View). KeepsUpdate v u) (sym is)
+    (record { numbered = λ n plan slots h. (prune_step v n plan slots h).next entry next; cutting = λ n nodes c. (cut_step v n nodes c).next entry next })
 
 pub next_least : (v w : View) (entry next : ℕ) → w ≡ next_loaded v entry next → KeepsLeast v w
 next_least v w entry next is = subst (λ (u : View). KeepsLeast v u) (sym is) (by v.reading.place)
@@ -268,7 +130,16 @@ next_least v w entry next is = subst (λ (u : View). KeepsLeast v u) (sym is) (b
     by _ = least_same v
 
 pub may_number : (v : View) (at : Link) (head entry : ℕ) → StandsOn v at head entry → 0 < entry → MayReadNumber v entry
-may_number v at head entry on some = record { at = record { node = at.node; side = at.side; found = on.found; place = on.place; some = some; there = on.there } }
+may_number v at head entry on some = record {
+  at = record {
+    node = at.node;
+    side = at.side;
+    found = on.found;
+    place = on.place;
+    some = some;
+    there = on.there;
+  };
+}
 
 pub may_next : (v u : View) (at : Link) (head entry number : ℕ) → StandsOn v at head entry → 0 < entry → u ≡ ts_loaded v entry number → MayReadNext u entry
 may_next v u at head entry number on some is =
@@ -286,7 +157,8 @@ may_next v u at head entry number on some is =
     }
 
 -- the number of an entry of such a bundle is not 0, since nobody has it pending
-module _ (p : Pass) (u : View) (at : Link) (least head entry number : ℕ) (front : List ℕ) (live : IsLiveView p.view) (past : HasGonePast p.view at least head front entry) (some : 0 < entry)
+module _ (p : Pass) (u : View) (at : Link) (least head entry number : ℕ) (front : List ℕ) (live : IsLiveView p.view)
+    (past : HasGonePast p.view at least head front entry) (some : 0 < entry)
     (event : Happened p.view.layout (loading_number p entry) p.view number u) where
   then : IsLiveView p.view
   then = record { live = live.live; stands = record { words = event.words; views = event.views; rule = event.rule; seat = p.seat; at = event.seat } }
@@ -295,17 +167,20 @@ module _ (p : Pass) (u : View) (at : Link) (least head entry number : ℕ) (fron
   unfolding then
   number_some =
       subst (λ x. 0 < x)
-      (happened_word p.view.layout (loading_number p entry) p.view u number (Entry Number entry) (entry_there p.view.layout entry some past.stands.there) refl tt event)
+      (happened_word p.view.layout (loading_number p entry) p.view u number (Entry Number entry)
+      (entry_there p.view.layout entry some past.stands.there) refl tt event)
       (part_numbered p.view then at head entry front past.idle past.stands.locked past.holds some past.part)
 
 -- the number and the next of an entry
-module _ (v u w : View) (at : Link) (least head entry number next : ℕ) (front : List ℕ) (past : HasGonePast v at least head front entry) (some : 0 < entry) (written : 0 < number)
+module _ (v u w : View) (at : Link) (least head entry number next : ℕ) (front : List ℕ) (past : HasGonePast v at least head front entry) (some : 0 < entry)
+    (written : 0 < number)
     (numbered : u ≡ ts_loaded v entry number) (gives : w ≡ next_loaded u entry next) (low : next ≤ u.layout.entries) where
   maps : u.held.nodes ≡ map (node_known entry number) v.held.nodes
   maps = ap (λ (x : View). x.held.nodes) numbered
 
   holds : HoldsEntry u at head
-  holds = entry-kept (node_known entry number) v u at head (mapped (node_known entry number) v u maps (λ h. refl)) (number-at entry number written at) past.holds
+  holds =
+      entry-kept (node_known entry number) v u at head (mapped (node_known entry number) v u maps (λ h. refl)) (number-at entry number written at) past.holds
 
   abbrev on : StandsOn u at head entry
   on = record {
@@ -329,7 +204,8 @@ module _ (v u w : View) (at : Link) (least head entry number next : ℕ) (front 
     place = length u.held.nexts;
     is =
         subst (λ (ns : List HeldNext). IsItem ns (length u.held.nexts) (record { node = at.node; entry = entry; stamp = Some number; next = next }))
-        (sym (walked_list u at head entry on some w next gives low)) (last-item u.held.nexts (record { node = at.node; entry = entry; stamp = Some number; next = next }));
+        (sym (walked_list u at head entry on some w next gives low))
+        (last-item u.held.nexts (record { node = at.node; entry = entry; stamp = Some number; next = next }));
     written = written;
   }
 
@@ -343,7 +219,9 @@ module _ (v u w : View) (at : Link) (least head entry number next : ℕ) (front 
         walked_part u at head entry on some w next gives low head front
         (part_kept v u at.node head entry front (λ place item is. subst (λ (x : View). IsItem x.held.nexts place item) (sym numbered) is) past.part);
     stands = walked_on u at head entry on some w next gives low;
-    idle = ap (λ (x : Updating). x.pending) (walked_update_same u at head entry on some w next gives low) ∙ ap (λ (x : View). x.update.pending) numbered ∙ past.idle;
+    idle =
+        ap (λ (x : Updating). x.pending) (walked_update_same u at head entry on some w next gives low)
+        ∙ ap (λ (x : View). x.update.pending) numbered ∙ past.idle;
   }
 
 -- a pass that has looked at the others stands as it did, with a smaller least number
@@ -360,7 +238,8 @@ module _ (v w : View) (same : KeepsPlace v w) where
     there = subst (λ (z : Layout). entry ≤ z.entries) (sym same.layout) on.there;
   }
 
-  pub stopped_still : (at : Link) (own low head : ℕ) (front : List ℕ) (stop : Stop) → low ≤ own → HasStopped v at own head front stop → HasStopped w at low head front stop
+  pub stopped_still : (at : Link) (own low head : ℕ) (front : List ℕ) (stop : Stop) → low ≤ own → HasStopped v at own head front stop
+      → HasStopped w at low head front stop
   stopped_still at own low head front stop le s =
       let holds = holds_still v w at head (ap (λ (h : Held). h.nodes) same.held) s.holds in
       record {
@@ -392,18 +271,11 @@ has_none k xs none = by (has k xs) refl
     by true is = absurd (omega (arith, none, has-count k xs is))
     by false is = refl
 
-pub least_still : (v w : View) (l : Least) → KeepsLeast v w → IsLeast v l → IsLeast w l
-least_still v w l keeps is = record {
-  reads = ap is_some keeps.section ∙ is.reads;
-  least = keeps.least ∙ is.least;
-  looked = λ told.
-      ap (λ (z : Layout). all_passed z.passes w.number w.reading.looked) keeps.layout ∙ ap (λ n. all_passed v.layout.passes n w.reading.looked) keeps.number
-      ∙ ap (all_passed v.layout.passes v.number) keeps.looked ∙ is.looked told;
-}
-
 -- once all entries after it are found too, the bundle may be cut
-module _ (v w : View) (at : Link) (least : Least) (head : ℕ) (front : List ℕ) (stop : Stop) (stays : count at.node v.update.taken ≡ 0) (is : IsLeast v least) (looked : least.looked ≡ true)
-    (low : stop.number ≤ least.number) (stopped : HasStopped v at least.number head front stop) (nexts : KeepsNexts v w) (keeps : KeepsLeast v w) (same : w.held.nodes ≡ v.held.nodes) where
+module _ (v w : View) (at : Link) (least : Least) (head : ℕ) (front : List ℕ) (stop : Stop) (stays : count at.node v.update.taken ≡ 0) (is : IsLeast v least)
+    (looked : least.looked ≡ true)
+    (low : stop.number ≤ least.number) (stopped : HasStopped v at least.number head front stop) (nexts : KeepsNexts v w) (keeps : KeepsLeast v w)
+    (same : w.held.nodes ≡ v.held.nodes) where
   now : IsLeast w least
   now = least_still v w least keeps is
 
@@ -427,7 +299,9 @@ module _ (v w : View) (at : Link) (least : Least) (head : ℕ) (front : List ℕ
     head = holds_now.head.loaded;
     loaded = holds_now.head.head;
     front = front;
-    walked = subst (λ h. HasWalkedTo w at.node least.number h front stop.entry) (sym holds_now.head.entry_is) (walk_kept v w at.node least.number head stop.entry front nexts stopped.walked);
+    walked =
+        subst (λ h. HasWalkedTo w at.node least.number h front stop.entry) (sym holds_now.head.entry_is)
+        (walk_kept v w at.node least.number head stop.entry front nexts stopped.walked);
     number = stop.number;
     next = stop.next;
     here = here_now;
@@ -444,13 +318,16 @@ module _ (v w : View) (at : Link) (least : Least) (head : ℕ) (front : List ℕ
 
 module _ (v w : View) (entry : ℕ) (back : List ℕ) (is : w ≡ cut_view v entry back) where
   pub cut_update : KeepsUpdate v w
-  cut_update = subst (λ (u : View). KeepsUpdate v u) (sym is) (record { numbered = λ n plan slots h. (prune_step v n plan slots h).cut entry back; cutting = λ n nodes c. (cut_step v n nodes c).cut entry back })
+  cut_update =
+      subst (λ (u : View). KeepsUpdate v u) (sym is)
+      (record { numbered = λ n plan slots h. (prune_step v n plan slots h).cut entry back; cutting = λ n nodes c. (cut_step v n nodes c).cut entry back })
 
   pub cut_least : KeepsLeast v w
   cut_least = subst (λ (u : View). KeepsLeast v u) (sym is) (record { section = refl; least = refl; looked = refl; number = refl; layout = refl; taken = refl })
 
 -- the bundles in front of which the update has put its entries
-pub front_changed : (v : View) (n : ℕ) (plan : Plan) (slots : PlanSlots) (place : ℕ) (f : Front) → HasNumbered v n plan slots → slice_get (fronts_of plan slots) place ≡ Some f → IsChanged v f.at
+pub front_changed : (v : View) (n : ℕ) (plan : Plan) (slots : PlanSlots) (place : ℕ) (f : Front) → HasNumbered v n plan slots
+    → slice_get (fronts_of plan slots) place ≡ Some f → IsChanged v f.at
 front_changed v n plan slots place f h is = record {
   inside = h.inside;
   unmarked = h.unmarked place f is;

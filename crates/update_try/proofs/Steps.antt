@@ -33,7 +33,23 @@ owned_same v = record { layout = refl; joined = refl; number = refl; history = r
 
 pub try_same : (v : View) → KeepsTry v v
 try_same v = record {
-  pass = record { layout = refl; joined = refl; number = refl; word = refl; announced = refl; history = refl; section = refl; opened = refl; least = refl; tree = refl; nodes = refl; retired = refl; batch = refl; raised = refl; taken = refl };
+  pass = record {
+    layout = refl;
+    joined = refl;
+    number = refl;
+    word = refl;
+    announced = refl;
+    history = refl;
+    section = refl;
+    opened = refl;
+    least = refl;
+    tree = refl;
+    nodes = refl;
+    retired = refl;
+    batch = refl;
+    raised = refl;
+    taken = refl;
+  };
   free = refl;
   grown = record { busy = omega arith; waits = omega arith; moves = omega arith };
 }
@@ -50,7 +66,8 @@ may_unlock v n node place nodes r is = record {
   set = all-done node v.update r.set;
 }
 
-pub unlocked_next : (v w : View) (n node place : ℕ) (nodes : List ℕ) → IsReleasing v n (drop place nodes) → slice_get nodes place ≡ Some node → w ≡ unlocked_view v node
+pub unlocked_next : (v w : View) (n node place : ℕ) (nodes : List ℕ) → IsReleasing v n (drop place nodes) → slice_get nodes place ≡ Some node
+    → w ≡ unlocked_view v node
     → IsReleasing w n (drop (place + 1) nodes) × KeepsOwned v w
 unlocked_next v w n node place nodes r is now =
     let next = unlock_step false v.layout v 0 n node (drop (place + 1) nodes) (subst (IsReleasing v n) (drop-got nodes place node is) r) in

@@ -1,4 +1,5 @@
-use Rattle.plan_laws.proofs.Parting.{start_parting, link_copy, load_far_tag, unlock_upper, leave_parted, look_parted, mark_far, unlink_far}
+use Rattle.plan_laws.proofs.Parting.{start_parting, link_copy, load_far_tag, unlock_upper, leave_parted, look_parted}
+use Rattle.plan_laws.proofs.FarUnlinks.{mark_far, unlink_far}
 use Rattle.plan_laws.proofs.end_laws.removals_wait.Goals as goal
 
 pub returns : goal.returns

@@ -6,7 +6,8 @@ use Rattle.request_lines.specs.Left.{texts_left, size_left}
 use Rattle.request_lines.proofs.InputLaws.{halfway_start, halfway_more, halfway_next, refused_at, session_at, answer_at}
 use Rattle.request_lines.proofs.CountedLines.{IsSessionOf}
 use Rattle.request_lines.proofs.LineCounts.{session_is, refused_is}
-use Rattle.request_lines.proofs.Sound.{sound_start, sound_more, few_names, sound_answer, IsSoundSession}
+use Rattle.request_lines.proofs.Sound.{sound_start, few_names, sound_answer, IsSoundSession}
+use Rattle.request_lines.proofs.SoundLines.{sound_more}
 use Rattle.request_lines.proofs.read.read_session.Goals as goal
 
 pub loop-left-init : goal.loop-left-init

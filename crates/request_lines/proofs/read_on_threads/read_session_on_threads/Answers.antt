@@ -8,7 +8,8 @@ use Rattle.request_lines.proofs.BlockLaws.{texts_small}
 use Rattle.request_lines.proofs.InputLaws.{halfway_whole, refused_whole, session_at, answer_at}
 use Rattle.request_lines.proofs.CountedLines.{IsSessionOf}
 use Rattle.request_lines.proofs.LineCounts.{session_is, refused_is}
-use Rattle.request_lines.proofs.Sound.{sound_whole, few_names, sound_answer, IsSoundSession}
+use Rattle.request_lines.proofs.Sound.{few_names, sound_answer, IsSoundSession}
+use Rattle.request_lines.proofs.SoundLines.{sound_whole}
 use Rattle.request_lines.proofs.read_on_threads.read_session_on_threads.Goals as goal
 use Rattle.request_lines.proofs.read_on_threads.read_session_on_threads.Given.{Over}
 

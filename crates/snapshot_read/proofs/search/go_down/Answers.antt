@@ -21,7 +21,9 @@ pub returns-then-here-key-clause-way : goal.returns-then-here-key-clause-way
 returns-then-here-key-clause-way c =
     let p = c.args.pass.now in
     let v = p.view in
-    λ tree is. subst (OnWay tree) (sym c.right_of.ensures) (go_right v c.args.at c.args.child c.args.search c.requires.reads c.requires.some c.requires.leads c.requires.way tree is p.seat c.load_key-here.result c.load_key-here.new.self.view c.load_key-here.ensures.event)
+    λ tree is. subst (OnWay tree) (sym c.right_of.ensures)
+    (go_right v c.args.at c.args.child c.args.search c.requires.reads c.requires.some c.requires.leads c.requires.way tree is p.seat c.load_key-here.result
+    c.load_key-here.new.self.view c.load_key-here.ensures.event)
 
 pub returns-then-here-key-clause-closer : goal.returns-then-here-key-clause-closer
 returns-then-here-key-clause-closer c =
@@ -29,7 +31,8 @@ returns-then-here-key-clause-closer c =
     let v = p.view in
     let known = reader v c.args.at c.facts.ensures c.requires.reads in
     subst (λ (s : Search). keys_left s < keys_left c.args.search) (sym c.right_of.ensures)
-    (closer_right v c.args.at c.args.child c.args.search c.requires.reads c.requires.some c.requires.leads c.requires.way known.tree known.is p.seat c.load_key-here.result c.load_key-here.new.self.view c.load_key-here.ensures.event)
+    (closer_right v c.args.at c.args.child c.args.search c.requires.reads c.requires.some c.requires.leads c.requires.way known.tree known.is p.seat
+    c.load_key-here.result c.load_key-here.new.self.view c.load_key-here.ensures.event)
 
 pub load_val-val-requires : goal.load_val-val-requires
 load_val-val-requires c =
@@ -38,7 +41,10 @@ load_val-val-requires c =
     let q = c.load_key-here.new.self in
     let read = pair_read v q.view c.requires.reads.inside.unlocked Key c.args.child c.load_key-here.result c.load_key-here.ensures.view in
     let known = reader v c.args.at c.facts.ensures c.requires.reads in
-    record { may = pair_too v c.args.at c.args.child c.args.search c.requires.reads c.requires.some c.requires.leads c.requires.way known.tree known.is q.view read }
+    record {
+      may = pair_too v c.args.at c.args.child c.args.search c.requires.reads c.requires.some c.requires.leads c.requires.way
+          known.tree known.is q.view read;
+    }
 
 pub returns-then-here-key-clause-read : goal.returns-then-here-key-clause-read
 returns-then-here-key-clause-read c =
@@ -52,7 +58,8 @@ returns-clause-read c =
     let q = c.load_key-here.new.self in
     let read = pair_read v q.view c.requires.reads.inside.unlocked Key c.args.child c.load_key-here.result c.load_key-here.ensures.view in
     let w = c.load_val-val.new.self.view in
-    read_more v q.view w read (pair_read q.view w (reads_on v q.view c.args.at read c.requires.reads).inside.unlocked Val c.args.child c.load_val-val.result c.load_val-val.ensures.view)
+    read_more v q.view w read (pair_read q.view w (reads_on v q.view c.args.at read c.requires.reads).inside.unlocked Val c.args.child
+    c.load_val-val.result c.load_val-val.ensures.view)
 
 pub returns-clause-same : goal.returns-clause-same
 returns-clause-same c = same_more c.args.pass.now c.load_key-here.new.self c.load_val-val.new.self c.load_key-here.ensures.same c.load_val-val.ensures.same
@@ -63,7 +70,9 @@ returns-clause-way c =
     let v = p.view in
     let q = c.load_key-here.new.self in
     let read = pair_read v q.view c.requires.reads.inside.unlocked Key c.args.child c.load_key-here.result c.load_key-here.ensures.view in
-    λ tree is. go_left v c.args.at c.args.child c.args.search c.requires.reads c.requires.some c.requires.leads c.requires.way tree is p.seat c.load_key-here.result q.view c.load_key-here.ensures.event q.view read q.seat c.load_val-val.result c.load_val-val.new.self.view c.load_val-val.ensures.event
+    λ tree is. go_left v c.args.at c.args.child c.args.search c.requires.reads c.requires.some c.requires.leads c.requires.way tree is p.seat
+    c.load_key-here.result q.view c.load_key-here.ensures.event q.view read q.seat c.load_val-val.result
+    c.load_val-val.new.self.view c.load_val-val.ensures.event
 
 pub returns-clause-closer : goal.returns-clause-closer
 returns-clause-closer c =
@@ -72,7 +81,9 @@ returns-clause-closer c =
     let q = c.load_key-here.new.self in
     let read = pair_read v q.view c.requires.reads.inside.unlocked Key c.args.child c.load_key-here.result c.load_key-here.ensures.view in
     let known = reader v c.args.at c.facts.ensures c.requires.reads in
-    closer_left v c.args.at c.args.child c.args.search c.requires.reads c.requires.some c.requires.leads c.requires.way known.tree known.is p.seat c.load_key-here.result q.view c.load_key-here.ensures.event q.view read q.seat c.load_val-val.result c.load_val-val.new.self.view c.load_val-val.ensures.event
+    closer_left v c.args.at c.args.child c.args.search c.requires.reads c.requires.some c.requires.leads c.requires.way known.tree known.is p.seat
+    c.load_key-here.result q.view c.load_key-here.ensures.event q.view read q.seat c.load_val-val.result
+    c.load_val-val.new.self.view c.load_val-val.ensures.event
 
 pub returns-clause-turned : goal.returns-clause-turned
 returns-clause-turned c =
@@ -80,4 +91,5 @@ returns-clause-turned c =
     let v = p.view in
     λ here side best tree is.
     subst (λ k. OnWay tree (right_of c.args.child k c.args.search.best)) (ap (λ (o : Option Pair). key_or o) best)
-    (go_right v c.args.at c.args.child c.args.search c.requires.reads c.requires.some c.requires.leads c.requires.way tree is p.seat c.load_key-here.result c.load_key-here.new.self.view c.load_key-here.ensures.event)
+    (go_right v c.args.at c.args.child c.args.search c.requires.reads c.requires.some c.requires.leads c.requires.way tree is p.seat c.load_key-here.result
+    c.load_key-here.new.self.view c.load_key-here.ensures.event)

@@ -1,6 +1,6 @@
 use Rattle.std.proofs.Common.{◌≢◌, ◌∙◌, sym}
 use Rattle.std.proofs.lemmas.Bool.{eqb-false}
-use Rattle.tree_update.proofs.SettleSteps.{seen_again}
+use Rattle.tree_update.proofs.SettleLooks.{seen_again}
 use Rattle.tree_update.proofs.settle.look_at.Goals as goal
 
 pub returns-in-Inside-clause-seen : goal.returns-in-Inside-clause-seen

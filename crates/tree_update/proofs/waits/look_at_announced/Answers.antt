@@ -2,7 +2,7 @@ use Rattle.std.proofs.Common.{◌∙◌, ap, sym}
 use Rattle.std.specs.Prelude.{is_some}
 use Rattle.index_words.specs.declared.view.View.{View}
 use Rattle.core_grace.specs.Sections.{is_even}
-use Rattle.update_try.proofs.Pruned.{may_look}
+use Rattle.update_try.proofs.PruneWalks.{may_look}
 use Rattle.tree_update.proofs.CallSteps.{announced_stays, stays_nothing}
 use Rattle.tree_update.proofs.waits.look_at_announced.Goals as goal
 

@@ -8,7 +8,8 @@ use Rattle.plan_laws.proofs.Prunes.{end_cutting, keeps_pruned, start_cutting}
 use Rattle.update_try.proofs.FoundHeads.{front_unmarked, out_unmarked}
 use Rattle.update_try.proofs.OnlyCuts.{changed_at}
 use Rattle.update_try.specs.Pruning.{IsPruned, IsPrunedNode, walk_limit}
-use Rattle.update_try.proofs.ShortBundles.{found_apart, limit_is, pruned_lower, prunes_other, prunes_replaced}
+use Rattle.update_try.proofs.KeptWalks.{pruned_lower}
+use Rattle.update_try.proofs.ShortBundles.{found_apart, limit_is, prunes_other, prunes_replaced}
 use Rattle.update_try.proofs.cutting.cut_locked.Goals as goal
 
 pub prune_link-least-requires : goal.prune_link-least-requires

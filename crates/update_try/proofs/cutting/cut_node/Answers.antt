@@ -3,8 +3,9 @@ use Rattle.core_trees.specs.declared.link.Link.{Link}
 use Rattle.index_words.specs.declared.side.Side.TheVariants.{Left, Right}
 use Rattle.core_updates.specs.Plans.{link_of}
 use Rattle.update_try.proofs.OnlyCuts.{changed_at}
-use Rattle.update_try.proofs.Pruned.{update_more}
-use Rattle.update_try.proofs.ShortBundles.{pruned_lower, sides_apart}
+use Rattle.update_try.proofs.PruneWalks.{update_more}
+use Rattle.update_try.proofs.KeptWalks.{pruned_lower}
+use Rattle.update_try.proofs.ShortBundles.{sides_apart}
 use Rattle.update_try.proofs.cutting.cut_node.Goals as goal
 
 pub prune_link-least-requires : goal.prune_link-least-requires

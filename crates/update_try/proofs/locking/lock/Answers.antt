@@ -22,13 +22,16 @@ pub returns-then-not-try_lock-clause-trying : goal.returns-then-not-try_lock-cla
 returns-then-not-try_lock-clause-trying c =
     let can : CanLock c.args.pass.now.view c.args.node = record { searched = inr c.requires.searched; unlocked = c.requires.unlocked } in
     let met = c.try_lock.ensures.busy c.if-not-try_lock.true in
-    let on = (met_keeps c.search_laws.ensures c.args.pass.now c.args.pass.now.number c.args.locks.now.items c.requires.trying c.args.node c.requires.searched can c.try_lock.new.self.view met).trying c.args.pass.now.number c.args.locks.now.items c.requires.trying in
+    let on = (met_keeps c.search_laws.ensures c.args.pass.now c.args.pass.now.number c.args.locks.now.items c.requires.trying c.args.node c.requires.searched
+    can c.try_lock.new.self.view met).trying c.args.pass.now.number c.args.locks.now.items c.requires.trying in
     subst (λ n. IsTrying c.try_lock.new.self.view n c.args.locks.now.items) (sym c.try_lock.ensures.same.number) on
 
 pub returns-then-not-try_lock-clause-alone : goal.returns-then-not-try_lock-clause-alone
 returns-then-not-try_lock-clause-alone c =
     let can : CanLock c.args.pass.now.view c.args.node = record { searched = inr c.requires.searched; unlocked = c.requires.unlocked } in
-    met_alone c.search_laws.ensures c.args.pass.now c.args.pass.now.number c.args.locks.now.items c.requires.trying c.args.node c.requires.searched can c.try_lock.new.self.view (node_there c.args.pass.now.view c.facts.ensures c.args.pass.now.number c.args.locks.now.items c.requires.trying c.args.node c.requires.searched)
+    met_alone c.search_laws.ensures c.args.pass.now c.args.pass.now.number c.args.locks.now.items c.requires.trying c.args.node c.requires.searched can
+    c.try_lock.new.self.view (node_there c.args.pass.now.view c.facts.ensures c.args.pass.now.number c.args.locks.now.items c.requires.trying
+    c.args.node c.requires.searched)
     (c.try_lock.ensures.busy c.if-not-try_lock.true)
 
 pub returns-clause-looks : goal.returns-clause-looks
@@ -45,7 +48,8 @@ pub returns-clause-trying : goal.returns-clause-trying
 returns-clause-trying c =
     let can : CanLock c.args.pass.now.view c.args.node = record { searched = inr c.requires.searched; unlocked = c.requires.unlocked } in
     let locks = c.try_lock.ensures.locked c.if-not-try_lock.false in
-    let on = locked_trying c.search_laws.ensures c.args.pass.now c.args.pass.now.number c.args.locks.now.items c.requires.trying c.args.node c.requires.searched can c.try_lock.new.self.view locks c.args.pass.now.number c.args.locks.now.items c.requires.trying in
+    let on = locked_trying c.search_laws.ensures c.args.pass.now c.args.pass.now.number c.args.locks.now.items c.requires.trying c.args.node
+    c.requires.searched can c.try_lock.new.self.view locks c.args.pass.now.number c.args.locks.now.items c.requires.trying in
     subst (λ n. IsTrying c.try_lock.new.self.view n c.push.new.self.items) (sym c.try_lock.ensures.same.number)
     (subst (IsTrying c.try_lock.new.self.view c.args.pass.now.number) (sym c.push.ensures.items) on)
 

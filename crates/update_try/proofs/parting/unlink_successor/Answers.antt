@@ -3,7 +3,7 @@ use Rattle.index_words.specs.declared.view.View.{View}
 use Rattle.plan_laws.specs.Parting.{RaisesFarTag, kept_locks}
 use Rattle.plan_laws.specs.Releases.{IsGivingBack}
 use Rattle.plan_laws.proofs.Frames.{keeps_owned}
-use Rattle.plan_laws.proofs.Parting.{mark_far}
+use Rattle.plan_laws.proofs.FarUnlinks.{mark_far}
 use Rattle.update_try.proofs.FarSteps.{at-rest, far-marked, gives-back, gives-may, link-keeps, unlock-keeps}
 use Rattle.update_try.proofs.Finals.{marked_keeps}
 use Rattle.update_try.proofs.parting.unlink_successor.Goals as goal

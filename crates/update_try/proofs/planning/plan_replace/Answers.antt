@@ -33,6 +33,9 @@ returns-clause-looked c =
       small = small;
       looks = (
         c.look_link-right.ensures.keeps.looks.looks (LinkLook c.args.found.now.at c.args.found.now.node) holds.at,
-        (c.look_link-right.ensures.keeps.looks.looks (LinkLook (link_of c.args.found.now.node Left) c.in_ok-left.left) holds.left_link, (c.look_link-right.ensures.leads, (c.look_link-right.ensures.keeps.looks.looks (KeyLook c.args.found.now.node c.args.pair.key) holds.key_is, tt))),
+        (
+          c.look_link-right.ensures.keeps.looks.looks (LinkLook (link_of c.args.found.now.node Left) c.in_ok-left.left) holds.left_link,
+          (c.look_link-right.ensures.leads, (c.look_link-right.ensures.keeps.looks.looks (KeyLook c.args.found.now.node c.args.pair.key) holds.key_is, tt)),
+        ),
       );
     }

@@ -1,7 +1,8 @@
 use Rattle.std.proofs.Common.{◌<◌, ◌∙◌, inl, [], ◌∷◌, ◌++◌, ap, arith}
 use Rattle.key_map.specs.Lists.{count}
-use Rattle.update_try.proofs.Pruned.{goes_on, least_more, least_still, update_more}
-use Rattle.update_try.proofs.ShortBundles.{others_kept, others_more}
+use Rattle.update_try.proofs.PruneWalks.{least_more, least_still, update_more}
+use Rattle.update_try.proofs.Pruned.{goes_on}
+use Rattle.update_try.proofs.KeptWalks.{others_kept, others_more}
 use Rattle.update_try.proofs.pruning.cut_from.Goals as goal
 
 pub go_past-requires : goal.go_past-requires

@@ -1,7 +1,9 @@
 use Rattle.std.proofs.Common.{◌<◌, [], ◌∷◌, ◌++◌, arith}
 use Rattle.std.proofs.lemmas.List.{length-append}
-use Rattle.update_try.proofs.Pruned.{goes_on, least_more, least_same, update_more, update_same}
-use Rattle.update_try.proofs.ShortBundles.{short_far, short_last, short_none, walks_more, walks_same}
+use Rattle.update_try.proofs.PruneWalks.{least_more, least_same, update_more, update_same}
+use Rattle.update_try.proofs.Pruned.{goes_on}
+use Rattle.update_try.proofs.KeptWalks.{walks_more, walks_same}
+use Rattle.update_try.proofs.ShortBundles.{short_far, short_last, short_none}
 use Rattle.update_try.proofs.Steps.{same_more, same_pass}
 use Rattle.update_try.proofs.pruning.go_past.Goals as goal
 

@@ -1,4 +1,4 @@
-use Rattle.update_try.proofs.Pruned.{place_same, update_same}
+use Rattle.update_try.proofs.PruneWalks.{place_same, update_same}
 use Rattle.update_try.proofs.pruning.least_of_all.Goals as goal
 
 pub returns-then-own-clause-place : goal.returns-then-own-clause-place

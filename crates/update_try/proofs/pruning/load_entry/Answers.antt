@@ -1,5 +1,6 @@
-use Rattle.update_try.proofs.Pruned.{least_more, nexts_loaded, nodes_read, may_next, may_number, next_least, next_update, number_least, number_some, number_update, stops_here, update_more}
-use Rattle.update_try.proofs.ShortBundles.{walks_read}
+use Rattle.update_try.proofs.PruneWalks.{least_more, update_more}
+use Rattle.update_try.proofs.Pruned.{nexts_loaded, nodes_read, may_next, may_number, next_least, next_update, number_least, number_some, number_update, stops_here}
+use Rattle.update_try.proofs.KeptWalks.{walks_read}
 use Rattle.update_try.proofs.pruning.load_entry.Goals as goal
 
 pub load_ts-number-requires : goal.load_ts-number-requires

@@ -1,6 +1,6 @@
 use Rattle.std.proofs.Common.{◌≤◌, ◌∙◌, sym, subst}
 use Rattle.update_try.specs.Pruning.{HasLookedAt}
-use Rattle.update_try.proofs.Pruned.{looked_other, looked_update, may_look, skips_own, update_same}
+use Rattle.update_try.proofs.PruneWalks.{looked_other, looked_update, may_look, skips_own, update_same}
 use Rattle.update_try.proofs.pruning.look_at_other.Goals as goal
 
 pub look_ann-word-requires : goal.look_ann-word-requires

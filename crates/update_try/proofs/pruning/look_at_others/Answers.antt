@@ -3,7 +3,7 @@ use Rattle.std.specs.Prelude.{is_some}
 use Rattle.index_words.specs.declared.layout.Layout.{Layout}
 use Rattle.core_grace.specs.Progress.{PassedOthers}
 use Rattle.core_grace.proofs.Progress.{passed_all}
-use Rattle.update_try.proofs.Pruned.{looked_next, place_more, place_same, update_more, update_same}
+use Rattle.update_try.proofs.PruneWalks.{looked_next, place_more, place_same, update_more, update_same}
 use Rattle.update_try.proofs.Steps.{same_more, same_pass}
 use Rattle.update_try.proofs.pruning.look_at_others.Goals as goal
 

@@ -6,7 +6,8 @@ use Rattle.plan_laws.specs.Prunes.{HasNumbered}
 use Rattle.plan_laws.proofs.Prunes.{keeps_pruned}
 use Rattle.update_try.specs.Pruning.{IsChanged, IsPruned, walk_limit}
 use Rattle.update_try.proofs.Pruned.{first_changed, next_changed}
-use Rattle.update_try.proofs.ShortBundles.{fronts_apart, limit_is, pruned_lower}
+use Rattle.update_try.proofs.KeptWalks.{pruned_lower}
+use Rattle.update_try.proofs.ShortBundles.{fronts_apart, limit_is}
 use Rattle.update_try.proofs.pruning.prune_all.Goals as goal
 
 pub prune_link-least-requires : goal.prune_link-least-requires

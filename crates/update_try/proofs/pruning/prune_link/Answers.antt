@@ -1,7 +1,8 @@
 use Rattle.std.proofs.Common.{[], ◌∙◌, ap}
 use Rattle.key_map.specs.Lists.{count}
-use Rattle.update_try.proofs.Pruned.{begins, head_least, head_update, least_more, least_still, may_head, stopped_still, update_more}
-use Rattle.update_try.proofs.ShortBundles.{others_kept, others_more, walks_head, walks_more, walks_still}
+use Rattle.update_try.proofs.PruneWalks.{least_more, least_still, update_more}
+use Rattle.update_try.proofs.Pruned.{begins, head_least, head_update, may_head, stopped_still}
+use Rattle.update_try.proofs.KeptWalks.{others_kept, others_more, walks_head, walks_more, walks_still}
 use Rattle.update_try.proofs.pruning.prune_link.Goals as goal
 
 pub load_head-head-requires : goal.load_head-head-requires

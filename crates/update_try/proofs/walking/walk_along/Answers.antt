@@ -4,7 +4,7 @@ use Rattle.index_words.specs.declared.layout.Layout.{Layout}
 use Rattle.plan_laws.proofs.Frames.{keeps_try}
 use Rattle.update_try.specs.Walked.{HoldsPart}
 use Rattle.update_try.proofs.LockedBundles.{part_ends, part_few, may_walk, walked_try, walked_looks, walked_nexts, walked_long, walked_on, walked_part, walked_trying, walked_counts, walked_update, walked_least, walked_held}
-use Rattle.update_try.proofs.Pruned.{update_same, update_more, least_same, least_more}
+use Rattle.update_try.proofs.PruneWalks.{update_same, update_more, least_same, least_more}
 use Rattle.plan_laws.proofs.Looks.{keeps_looks}
 use Rattle.update_try.proofs.Steps.{looks_same, same_pass, same_more, try_same}
 use Rattle.update_try.proofs.walking.walk_along.Goals as goal

@@ -23,14 +23,20 @@ use Rattle.core_rule.proofs.state.State.step.Goals as goal
 
 pub change-requires-clause-met : goal.change-requires-clause-met
 change-requires-clause-met c =
-    is_met_by c.self.inside.layout c.self.inside.words.items c.as_slice.result.now c.self.inside.views.items c.as_slice-2.result.now c.args.event.now c.in-Some.word c.in-Some-allowed_step.step c.allowed_step.result c.as_slice.ensures.value c.as_slice-2.ensures.value c.allowed_step.ensures.met c.in-Some-allowed_step.is
+    is_met_by c.self.inside.layout c.self.inside.words.items c.as_slice.result.now c.self.inside.views.items c.as_slice-2.result.now c.args.event.now
+    c.in-Some.word c.in-Some-allowed_step.step c.allowed_step.result c.as_slice.ensures.value c.as_slice-2.ensures.value
+    c.allowed_step.ensures.met c.in-Some-allowed_step.is
     c.allowed_step.ensures.step c.as_slice-3.result.now c.as_slice-3.ensures.value
 
 pub change-requires-clause-small : goal.change-requires-clause-small
 change-requires-clause-small c is =
-    let step_of = step_is c.self.inside.layout c.self.inside.words.items c.as_slice.result.now c.self.inside.views.items c.as_slice-2.result.now c.args.event.now c.in-Some.word c.in-Some-allowed_step.step c.allowed_step.result c.as_slice.ensures.value c.as_slice-2.ensures.value c.allowed_step.ensures.met c.in-Some-allowed_step.is c.allowed_step.ensures.step in
+    let step_of = step_is c.self.inside.layout c.self.inside.words.items c.as_slice.result.now c.self.inside.views.items c.as_slice-2.result.now
+    c.args.event.now c.in-Some.word c.in-Some-allowed_step.step c.allowed_step.result c.as_slice.ensures.value c.as_slice-2.ensures.value
+    c.allowed_step.ensures.met c.in-Some-allowed_step.is c.allowed_step.ensures.step in
     let t : Table = record { layout = c.self.inside.layout; words = c.self.inside.words.items; views = c.self.inside.views.items } in
-    let now = met_now c.self.inside.layout c.self.inside.words.items c.as_slice.result.now c.self.inside.views.items c.as_slice-2.result.now c.args.event.now c.in-Some.word c.in-Some-allowed_step.step c.allowed_step.result c.as_slice.ensures.value c.as_slice-2.ensures.value c.allowed_step.ensures.met c.in-Some-allowed_step.is in
+    let now = met_now c.self.inside.layout c.self.inside.words.items c.as_slice.result.now c.self.inside.views.items c.as_slice-2.result.now c.args.event.now
+    c.in-Some.word c.in-Some-allowed_step.step c.allowed_step.result c.as_slice.ensures.value c.as_slice-2.ensures.value
+    c.allowed_step.ensures.met c.in-Some-allowed_step.is in
     let raise = sym (ap (λ (p : Parts). p.kind) step_of) ∙ is in
     subst (λ (ws : List ℕ). memory c.self.inside.layout ws Stamp + 1 < 2 ^ 64) (sym c.as_slice-3.ensures.value)
     (subst (λ (w : Word). held_by t w + 1 < 2 ^ 64) (raises t c.args.event.now c.in-Some.word now raise).stamp
@@ -38,67 +44,99 @@ change-requires-clause-small c is =
 
 pub store-requires-clause-small : goal.store-requires-clause-small
 store-requires-clause-small c is =
-    stored_small c.self.inside.layout c.self.inside.words.items c.self.inside.words.items c.self.inside.views.items c.self.inside.views.items c.args.event.now c.in-Some.word _
+    stored_small c.self.inside.layout c.self.inside.words.items c.self.inside.words.items c.self.inside.views.items c.self.inside.views.items
+    c.args.event.now c.in-Some.word _
     c.self.invariant c.in-Some.ensures.value refl refl refl
-    (met_now c.self.inside.layout c.self.inside.words.items c.as_slice.result.now c.self.inside.views.items c.as_slice-2.result.now c.args.event.now c.in-Some.word c.in-Some-allowed_step.step c.allowed_step.result c.as_slice.ensures.value c.as_slice-2.ensures.value c.allowed_step.ensures.met c.in-Some-allowed_step.is)
-    (sym (ap (λ (p : Parts). p.kind) (step_is c.self.inside.layout c.self.inside.words.items c.as_slice.result.now c.self.inside.views.items c.as_slice-2.result.now c.args.event.now c.in-Some.word c.in-Some-allowed_step.step c.allowed_step.result c.as_slice.ensures.value c.as_slice-2.ensures.value c.allowed_step.ensures.met c.in-Some-allowed_step.is c.allowed_step.ensures.step)) ∙ is)
+    (met_now c.self.inside.layout c.self.inside.words.items c.as_slice.result.now c.self.inside.views.items c.as_slice-2.result.now c.args.event.now
+    c.in-Some.word c.in-Some-allowed_step.step c.allowed_step.result c.as_slice.ensures.value c.as_slice-2.ensures.value
+    c.allowed_step.ensures.met c.in-Some-allowed_step.is)
+    (sym (ap (λ (p : Parts). p.kind) (step_is c.self.inside.layout c.self.inside.words.items c.as_slice.result.now c.self.inside.views.items
+    c.as_slice-2.result.now c.args.event.now c.in-Some.word c.in-Some-allowed_step.step c.allowed_step.result c.as_slice.ensures.value
+    c.as_slice-2.ensures.value c.allowed_step.ensures.met c.in-Some-allowed_step.is c.allowed_step.ensures.step)) ∙ is)
 
 pub invariant_of-self : goal.invariant_of-self
 invariant_of-self c =
-    refused_right (record { layout = c.self.inside.layout; words = c.self.inside.words.items; views = c.self.inside.views.items }) c.change.new.views.items c.is_err.result
+    refused_right (record { layout = c.self.inside.layout; words = c.self.inside.words.items; views = c.self.inside.views.items })
+    c.change.new.views.items c.is_err.result
     c.change.result c.self.invariant c.is_err.ensures.value c.if-is_err.true c.change.ensures.err
 
 pub invariant_of-self-2 : goal.invariant_of-self-2
 invariant_of-self-2 c =
-    (taken_law (λ t e u. AfterTable t u) stepped_right c.self.inside.layout c.self.inside.words.items c.self.inside.views.items c.args.event.now c.store.new.words.items c.change.new.views.items c.self.invariant
-    (taken c.self.inside.layout c.self.inside.words.items c.as_slice.result.now c.self.inside.views.items c.as_slice-2.result.now c.args.event.now c.in-Some.word c.in-Some-allowed_step.step c.allowed_step.result c.as_slice.ensures.value c.as_slice-2.ensures.value c.allowed_step.ensures.met c.in-Some-allowed_step.is
+    (taken_law (λ t e u. AfterTable t u) stepped_right c.self.inside.layout c.self.inside.words.items c.self.inside.views.items c.args.event.now
+    c.store.new.words.items c.change.new.views.items c.self.invariant
+    (taken c.self.inside.layout c.self.inside.words.items c.as_slice.result.now c.self.inside.views.items c.as_slice-2.result.now c.args.event.now
+    c.in-Some.word c.in-Some-allowed_step.step c.allowed_step.result c.as_slice.ensures.value c.as_slice-2.ensures.value
+    c.allowed_step.ensures.met c.in-Some-allowed_step.is
     c.allowed_step.ensures.step c.as_slice-3.result.now c.store.new.words.items c.is_err.result c.change.result c.change.new.views.items
     c.in-Some.ensures.value c.as_slice-3.ensures.value c.is_err.ensures.value c.if-is_err.false c.change.ensures.ok c.store.ensures)).right
 
 pub returns-clause-rule : goal.returns-clause-rule
 returns-clause-rule c =
-    (taken_law (λ t e u. AfterTable t u) stepped_right c.self.inside.layout c.self.inside.words.items c.self.inside.views.items c.args.event.now c.store.new.words.items c.change.new.views.items c.self.invariant
-    (taken c.self.inside.layout c.self.inside.words.items c.as_slice.result.now c.self.inside.views.items c.as_slice-2.result.now c.args.event.now c.in-Some.word c.in-Some-allowed_step.step c.allowed_step.result c.as_slice.ensures.value c.as_slice-2.ensures.value c.allowed_step.ensures.met c.in-Some-allowed_step.is
+    (taken_law (λ t e u. AfterTable t u) stepped_right c.self.inside.layout c.self.inside.words.items c.self.inside.views.items c.args.event.now
+    c.store.new.words.items c.change.new.views.items c.self.invariant
+    (taken c.self.inside.layout c.self.inside.words.items c.as_slice.result.now c.self.inside.views.items c.as_slice-2.result.now c.args.event.now
+    c.in-Some.word c.in-Some-allowed_step.step c.allowed_step.result c.as_slice.ensures.value c.as_slice-2.ensures.value
+    c.allowed_step.ensures.met c.in-Some-allowed_step.is
     c.allowed_step.ensures.step c.as_slice-3.result.now c.store.new.words.items c.is_err.result c.change.result c.change.new.views.items
     c.in-Some.ensures.value c.as_slice-3.ensures.value c.is_err.ensures.value c.if-is_err.false c.change.ensures.ok c.store.ensures)).right
 
 pub returns-clause-owners : goal.returns-clause-owners
 returns-clause-owners c =
-    subst (λ (u : Table). KeepsOwners c.args.event.now.seat u (record { layout = c.self.inside.layout; words = c.store.new.words.items; views = c.change.new.views.items })) c.self.view_is
-    (taken_law (λ t e u. KeepsOwners e.seat t u) owners c.self.inside.layout c.self.inside.words.items c.self.inside.views.items c.args.event.now c.store.new.words.items c.change.new.views.items c.self.invariant
-    (taken c.self.inside.layout c.self.inside.words.items c.as_slice.result.now c.self.inside.views.items c.as_slice-2.result.now c.args.event.now c.in-Some.word c.in-Some-allowed_step.step c.allowed_step.result c.as_slice.ensures.value c.as_slice-2.ensures.value c.allowed_step.ensures.met c.in-Some-allowed_step.is
+    subst (λ (u : Table). KeepsOwners c.args.event.now.seat u
+    (record { layout = c.self.inside.layout; words = c.store.new.words.items; views = c.change.new.views.items })) c.self.view_is
+    (taken_law (λ t e u. KeepsOwners e.seat t u) owners c.self.inside.layout c.self.inside.words.items c.self.inside.views.items c.args.event.now
+    c.store.new.words.items c.change.new.views.items c.self.invariant
+    (taken c.self.inside.layout c.self.inside.words.items c.as_slice.result.now c.self.inside.views.items c.as_slice-2.result.now c.args.event.now
+    c.in-Some.word c.in-Some-allowed_step.step c.allowed_step.result c.as_slice.ensures.value c.as_slice-2.ensures.value
+    c.allowed_step.ensures.met c.in-Some-allowed_step.is
     c.allowed_step.ensures.step c.as_slice-3.result.now c.store.new.words.items c.is_err.result c.change.result c.change.new.views.items
     c.in-Some.ensures.value c.as_slice-3.ensures.value c.is_err.ensures.value c.if-is_err.false c.change.ensures.ok c.store.ensures))
 
 pub returns-clause-links : goal.returns-clause-links
 returns-clause-links c =
-    subst (λ (u : Table). KeepsSelections u (record { layout = c.self.inside.layout; words = c.store.new.words.items; views = c.change.new.views.items })) c.self.view_is
-    (taken_law (λ t e u. AfterTable t u) stepped_right c.self.inside.layout c.self.inside.words.items c.self.inside.views.items c.args.event.now c.store.new.words.items c.change.new.views.items c.self.invariant
-    (taken c.self.inside.layout c.self.inside.words.items c.as_slice.result.now c.self.inside.views.items c.as_slice-2.result.now c.args.event.now c.in-Some.word c.in-Some-allowed_step.step c.allowed_step.result c.as_slice.ensures.value c.as_slice-2.ensures.value c.allowed_step.ensures.met c.in-Some-allowed_step.is
+    subst (λ (u : Table). KeepsSelections u (record { layout = c.self.inside.layout; words = c.store.new.words.items; views = c.change.new.views.items }))
+    c.self.view_is
+    (taken_law (λ t e u. AfterTable t u) stepped_right c.self.inside.layout c.self.inside.words.items c.self.inside.views.items c.args.event.now
+    c.store.new.words.items c.change.new.views.items c.self.invariant
+    (taken c.self.inside.layout c.self.inside.words.items c.as_slice.result.now c.self.inside.views.items c.as_slice-2.result.now c.args.event.now
+    c.in-Some.word c.in-Some-allowed_step.step c.allowed_step.result c.as_slice.ensures.value c.as_slice-2.ensures.value
+    c.allowed_step.ensures.met c.in-Some-allowed_step.is
     c.allowed_step.ensures.step c.as_slice-3.result.now c.store.new.words.items c.is_err.result c.change.result c.change.new.views.items
     c.in-Some.ensures.value c.as_slice-3.ensures.value c.is_err.ensures.value c.if-is_err.false c.change.ensures.ok c.store.ensures)).same
 
 pub returns-clause-seen : goal.returns-clause-seen
 returns-clause-seen c =
-    subst (λ (u : Table). KeepsSeen u c.args.event.now (record { layout = c.self.inside.layout; words = c.store.new.words.items; views = c.change.new.views.items })) c.self.view_is
-    (taken_law KeepsSeen keeps_seen c.self.inside.layout c.self.inside.words.items c.self.inside.views.items c.args.event.now c.store.new.words.items c.change.new.views.items c.self.invariant
-    (taken c.self.inside.layout c.self.inside.words.items c.as_slice.result.now c.self.inside.views.items c.as_slice-2.result.now c.args.event.now c.in-Some.word c.in-Some-allowed_step.step c.allowed_step.result c.as_slice.ensures.value c.as_slice-2.ensures.value c.allowed_step.ensures.met c.in-Some-allowed_step.is
+    subst (λ (u : Table). KeepsSeen u c.args.event.now
+    (record { layout = c.self.inside.layout; words = c.store.new.words.items; views = c.change.new.views.items })) c.self.view_is
+    (taken_law KeepsSeen keeps_seen c.self.inside.layout c.self.inside.words.items c.self.inside.views.items c.args.event.now c.store.new.words.items
+    c.change.new.views.items c.self.invariant
+    (taken c.self.inside.layout c.self.inside.words.items c.as_slice.result.now c.self.inside.views.items c.as_slice-2.result.now c.args.event.now
+    c.in-Some.word c.in-Some-allowed_step.step c.allowed_step.result c.as_slice.ensures.value c.as_slice-2.ensures.value
+    c.allowed_step.ensures.met c.in-Some-allowed_step.is
     c.allowed_step.ensures.step c.as_slice-3.result.now c.store.new.words.items c.is_err.result c.change.result c.change.new.views.items
     c.in-Some.ensures.value c.as_slice-3.ensures.value c.is_err.ensures.value c.if-is_err.false c.change.ensures.ok c.store.ensures))
 
 pub returns-clause-sections : goal.returns-clause-sections
 returns-clause-sections c =
-    subst (λ (u : Table). MovesSections u c.args.event.now (record { layout = c.self.inside.layout; words = c.store.new.words.items; views = c.change.new.views.items })) c.self.view_is
-    (taken_law MovesSections moves_sections c.self.inside.layout c.self.inside.words.items c.self.inside.views.items c.args.event.now c.store.new.words.items c.change.new.views.items c.self.invariant
-    (taken c.self.inside.layout c.self.inside.words.items c.as_slice.result.now c.self.inside.views.items c.as_slice-2.result.now c.args.event.now c.in-Some.word c.in-Some-allowed_step.step c.allowed_step.result c.as_slice.ensures.value c.as_slice-2.ensures.value c.allowed_step.ensures.met c.in-Some-allowed_step.is
+    subst (λ (u : Table). MovesSections u c.args.event.now
+    (record { layout = c.self.inside.layout; words = c.store.new.words.items; views = c.change.new.views.items })) c.self.view_is
+    (taken_law MovesSections moves_sections c.self.inside.layout c.self.inside.words.items c.self.inside.views.items c.args.event.now c.store.new.words.items
+    c.change.new.views.items c.self.invariant
+    (taken c.self.inside.layout c.self.inside.words.items c.as_slice.result.now c.self.inside.views.items c.as_slice-2.result.now c.args.event.now
+    c.in-Some.word c.in-Some-allowed_step.step c.allowed_step.result c.as_slice.ensures.value c.as_slice-2.ensures.value
+    c.allowed_step.ensures.met c.in-Some-allowed_step.is
     c.allowed_step.ensures.step c.as_slice-3.result.now c.store.new.words.items c.is_err.result c.change.result c.change.new.views.items
     c.in-Some.ensures.value c.as_slice-3.ensures.value c.is_err.ensures.value c.if-is_err.false c.change.ensures.ok c.store.ensures))
 
 pub returns-clause-ok : goal.returns-clause-ok
 returns-clause-ok c =
-    subst (λ (u : Table). (allowed u c.args.event.now ≡ true) × (record { layout = c.self.inside.layout; words = c.store.new.words.items; views = c.change.new.views.items } ≡ after u c.args.event.now)) c.self.view_is
-    (taken_law (λ (t : Table) (e : Event) (u : Table). (allowed t e ≡ true) × (u ≡ after t e)) (λ t e right met. (met, refl)) c.self.inside.layout c.self.inside.words.items c.self.inside.views.items c.args.event.now c.store.new.words.items c.change.new.views.items c.self.invariant
-    (taken c.self.inside.layout c.self.inside.words.items c.as_slice.result.now c.self.inside.views.items c.as_slice-2.result.now c.args.event.now c.in-Some.word c.in-Some-allowed_step.step c.allowed_step.result c.as_slice.ensures.value c.as_slice-2.ensures.value c.allowed_step.ensures.met c.in-Some-allowed_step.is
+    subst (λ (u : Table). (allowed u c.args.event.now ≡ true)
+    × (record { layout = c.self.inside.layout; words = c.store.new.words.items; views = c.change.new.views.items } ≡ after u c.args.event.now)) c.self.view_is
+    (taken_law (λ (t : Table) (e : Event) (u : Table). (allowed t e ≡ true) × (u ≡ after t e)) (λ t e right met. (met, refl)) c.self.inside.layout
+    c.self.inside.words.items c.self.inside.views.items c.args.event.now c.store.new.words.items c.change.new.views.items c.self.invariant
+    (taken c.self.inside.layout c.self.inside.words.items c.as_slice.result.now c.self.inside.views.items c.as_slice-2.result.now c.args.event.now
+    c.in-Some.word c.in-Some-allowed_step.step c.allowed_step.result c.as_slice.ensures.value c.as_slice-2.ensures.value
+    c.allowed_step.ensures.met c.in-Some-allowed_step.is
     c.allowed_step.ensures.step c.as_slice-3.result.now c.store.new.words.items c.is_err.result c.change.result c.change.new.views.items
     c.in-Some.ensures.value c.as_slice-3.ensures.value c.is_err.ensures.value c.if-is_err.false c.change.ensures.ok c.store.ensures))
 
@@ -147,18 +185,22 @@ returns-in_default-allowed_step-clause-places c = (laws_same _ c.args.self.now c
 pub returns-then-is_err-clause-owners : goal.returns-then-is_err-clause-owners
 returns-then-is_err-clause-owners c =
     let t : Table = record { layout = c.self.inside.layout; words = c.self.inside.words.items; views = c.self.inside.views.items } in
-    subst (λ (u : Table). KeepsOwners c.args.event.now.seat u (record { layout = c.self.inside.layout; words = c.self.inside.words.items; views = c.change.new.views.items })) c.self.view_is
-    (owners_refused c.args.event.now.seat t c.change.new.views.items c.is_err.result c.change.result c.is_err.ensures.value c.if-is_err.true c.change.ensures.err)
+    subst (λ (u : Table). KeepsOwners c.args.event.now.seat u
+    (record { layout = c.self.inside.layout; words = c.self.inside.words.items; views = c.change.new.views.items })) c.self.view_is
+    (owners_refused c.args.event.now.seat t c.change.new.views.items c.is_err.result c.change.result c.is_err.ensures.value
+    c.if-is_err.true c.change.ensures.err)
 
 pub returns-then-is_err-clause-links : goal.returns-then-is_err-clause-links
 returns-then-is_err-clause-links c =
     let t : Table = record { layout = c.self.inside.layout; words = c.self.inside.words.items; views = c.self.inside.views.items } in
-    subst (λ (u : Table). KeepsSelections u (record { layout = c.self.inside.layout; words = c.self.inside.words.items; views = c.change.new.views.items })) c.self.view_is
+    subst (λ (u : Table). KeepsSelections u (record { layout = c.self.inside.layout; words = c.self.inside.words.items; views = c.change.new.views.items }))
+    c.self.view_is
     (refused_selections t c.change.new.views.items c.is_err.result c.change.result c.is_err.ensures.value c.if-is_err.true c.change.ensures.err)
 
 pub returns-then-is_err-clause-rule : goal.returns-then-is_err-clause-rule
 returns-then-is_err-clause-rule c =
-    refused_right (record { layout = c.self.inside.layout; words = c.self.inside.words.items; views = c.self.inside.views.items }) c.change.new.views.items c.is_err.result
+    refused_right (record { layout = c.self.inside.layout; words = c.self.inside.words.items; views = c.self.inside.views.items })
+    c.change.new.views.items c.is_err.result
     c.change.result c.self.invariant c.is_err.ensures.value c.if-is_err.true c.change.ensures.err
 
 pub returns-then-is_err-clause-trees : goal.returns-then-is_err-clause-trees
