@@ -3,9 +3,11 @@
 
     tests/documents/more_edits.py [NAME ..]
     tests/documents/more_edits.py --changed [COMMIT]
+    tests/documents/more_edits.py --apply
 
 Without a name it tries those of every crate; with --changed those of the crates whose files differ from the commit
-(without one: from the last commit). Each edit must be refused by the prover, as those in must-fail/ must.
+(without one: from the last commit). With --apply none is tried: of each edit, those of must-fail/ too, the text that it
+replaces must stand exactly once in its file. Each edit must be refused by the prover, as those in must-fail/ must.
 A crate is tried on a copy of the sources in which its more-edits/ stand in the place of must-fail/.
 The script counts, and ends with status 1 where an edit is still proved, cannot be applied or was not tried.
 It says where only a proof that names what the edit took away has refused it: that says little about the
@@ -41,6 +43,28 @@ def changed(commit):
     return sorted(name for name in touched if (ROOT / "crates" / name / "more-edits").is_dir())
 
 
+def replaced(edit):
+    """The texts that an edit replaces, each with its file."""
+    place, word, lines = None, None, []
+    for line in [*edit.read_text().splitlines(), "file:"]:
+        begins = re.match(r"(file|old|new): ?(.*)$", line)
+        if begins is None:
+            lines.append(line)
+            continue
+        if word == "old":
+            yield edit.parent.parent / place, "\n".join(lines).rstrip("\n")
+        word, lines = begins[1], [begins[2]]
+        place = begins[2].strip() if word == "file" else place
+
+
+def misplaced():
+    """The edits that cannot be applied."""
+    for edit in sorted(ROOT.glob("crates/*/*/*.edit")):
+        texts = list(replaced(edit))
+        if not texts or any(not at.is_file() or at.read_text().count(text) != 1 for at, text in texts):
+            yield edit
+
+
 def tried(folder, crate):
     """What each edit of a crate came to, which were refused by their shape alone, and all that was said."""
     home = folder / "crates" / crate
@@ -58,7 +82,12 @@ def main():
     parser = argparse.ArgumentParser(description=__doc__.splitlines()[0])
     parser.add_argument("names", nargs="*", help="crates; without one, all that have more-edits/")
     parser.add_argument("--changed", nargs="?", const="HEAD", metavar="COMMIT", help="the crates that differ from it")
+    parser.add_argument("--apply", action="store_true", help="only see that each edit can be applied")
     args = parser.parse_args()
+    if args.apply:
+        found = [str(edit.relative_to(ROOT)) for edit in misplaced()]
+        print(*found, "each edit can be applied" if not found else "cannot be applied", sep="\n")
+        return 1 if found else 0
     if args.changed:
         names = changed(args.changed)
         print("to be tried:", *names or ["none"], flush=True)
