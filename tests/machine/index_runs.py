@@ -53,7 +53,7 @@ another puts each key and removes it, and each reports which of its slots are fr
   few to empty it: such a run counts as not emptied, and where no run is emptied that is a failure;
 - where the map is empty exactly two entries are not free, which the one bundle left keeps: that of the last removal,
   and the one that it found, of the put before it. These two updates are of one pass, and no other works meanwhile, so the
-  removal cuts what comes after it.
+  removal cuts what comes after it; but a pass that owns more entries than it was given leaves them.
 
 How many updates were refused is reported, how many of them while a reader was at a visit, and fewer than M updates in
 a hundred requests are a failure.
@@ -253,13 +253,15 @@ def run_beside_visits(words, seed):
     return None, {"requests": asked, "updates": counts[0], "visits": counts[1], "refused, all of them next to a reader": beside}
 
 
-def places_of(lines, nodes, entries, keys):
-    """What is wrong with the free slots that the passes tell at the end, or None. The table has so many nodes and entries,
-    and the map so many keys."""
-    free = {"node": [], "entry": []}
+def places_of(lines, nodes, entries, keys, share):
+    """What is wrong with the free slots that the passes report at the end, or None. The table has so many nodes and
+    entries, a pass with no more entries than the share has no surplus, and the map has so many keys."""
+    free, most_owned = {"node": [], "entry": []}, 0
     for line in lines:
         _, _, kind, *slots = line.split()
         free[kind] += map(int, slots)
+        if kind == "entry":
+            most_owned = max(most_owned, len(slots))
     for kind, most in (("node", nodes), ("entry", entries)):
         if len(set(free[kind])) != len(free[kind]):
             return f"a slot is free in two places: {kind} {sorted(free[kind])}"
@@ -268,7 +270,7 @@ def places_of(lines, nodes, entries, keys):
     if nodes - len(free["node"]) != keys:
         return f"{nodes - len(free['node'])} nodes are not free, and the map has {keys} keys"
     left = entries - len(free["entry"])
-    if keys == 0 and left != 2:
+    if keys == 0 and (left < 2 or left > 2 and most_owned <= share):
         return f"{left} entries are not free, and the map is empty"
     return None
 
@@ -292,7 +294,8 @@ def run_with_few_slots(words, seed):
     free = [line for line in lines if line[0] == "F"]
     if len(free) != 2 * (passes + readers):
         return f"{len(free)} lists of free slots: {lines[:1]}", None
-    wrong = places_of(free, passes * nodes + readers, passes * entries + 4 * readers, len(state))
+    every = passes * entries + 4 * readers
+    wrong = places_of(free, passes * nodes + readers, every, len(state), min(entries, every // (passes + readers)))
     if wrong:
         return wrong, None
     if counts[0] * 100 < words.least_made * passes * each:
