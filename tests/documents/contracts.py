@@ -3,6 +3,8 @@
 
     tests/documents/contracts.py                    prints the contracts of all crates, as a page in Markdown
     tests/documents/contracts.py page_rules         prints those of the named crates
+    tests/documents/contracts.py --since COMMIT     prints the functions and promises that were there at a commit and are gone,
+                                                    and the conditions that are new
     tests/documents/contracts.py --check            reports where the documents differ from the source, and then ends with status 1
 
 A function is public where it is named by `pub use` in the crate's root file, or is a method of a type or trait
@@ -12,7 +14,10 @@ a page of docs/ says "clause `c` of `f`", each function has a clause of that nam
 """
 import argparse
 import re
+import subprocess
 import sys
+import tarfile
+import tempfile
 from pathlib import Path
 
 TOP = Path(__file__).resolve().parent.parent.parent
@@ -22,8 +27,8 @@ NAMELESS = "–"
 # ---- the source
 
 
-def crates():
-    lines = (TOP / "crates.txt").read_text().splitlines()
+def crates(top=TOP):
+    lines = (top / "crates.txt").read_text().splitlines()
     return [re.split(r"[\s:]", line)[0] for line in lines if line.strip() and not line.startswith("#")]
 
 
@@ -117,9 +122,9 @@ def files_of(src, module):
     return [src / (module + ".rt")] + sorted((src / module).rglob("*.rt"))
 
 
-def documented_functions(crate):
+def documented_functions(crate, top=TOP):
     """The functions of the crate that others can call: `Owner::name` or `name`, with their clauses and comments."""
-    src = TOP / "crates" / crate / "src"
+    src = top / "crates" / crate / "src"
     public = exports(src)
     found = {}
 
@@ -141,9 +146,9 @@ def documented_functions(crate):
     return found
 
 
-def public_functions(crate):
+def public_functions(crate, top=TOP):
     """The same with their clauses alone."""
-    return {name: clauses for name, (clauses, _) in documented_functions(crate).items()}
+    return {name: clauses for name, (clauses, _) in documented_functions(crate, top).items()}
 
 
 # ---- the page
@@ -224,13 +229,55 @@ def check():
     print("the public functions have %d clauses, and each one that the documents name is there" % clauses)
 
 
+# ---- an earlier commit
+
+
+def all_clauses(top):
+    """The clauses of each public function; of a name that several crates have, those of all of them."""
+    found = {}
+    for crate in crates(top):
+        for function, clauses in public_functions(crate, top).items():
+            found.setdefault(function, set()).update(clauses)
+    return found
+
+
+def differences(before, after):
+    """Functions and promises of `before` that `after` lacks, and conditions that `before` did not have. A function is the
+    same one where it has moved to another crate. A clause in other words is reported too: a reader decides."""
+    for function in sorted(before):
+        if function not in after:
+            yield "gone: `%s`" % function
+            continue
+        for kind, clauses, others in (("ensures", before, after), ("requires", after, before)):
+            for clause in sorted(clauses[function] - others[function]):
+                if clause[0] == kind:
+                    what = "promise gone or in other words" if kind == "ensures" else "condition new or in other words"
+                    yield "%s: `%s`, `%s`: %s" % (what, function, clause[1], clause[2])
+
+
+def since(commit):
+    with tempfile.TemporaryDirectory() as folder:
+        packed = subprocess.run(["git", "-C", TOP, "archive", commit, "crates", "crates.txt"], check=True, stdout=subprocess.PIPE).stdout
+        with tempfile.TemporaryFile() as file:
+            file.write(packed)
+            file.seek(0)
+            tarfile.open(fileobj=file).extractall(folder)
+        before, after = all_clauses(Path(folder)), all_clauses(TOP)
+    found = list(differences(before, after))
+    print("\n".join(found), end="\n" if found else "")
+    print("%d functions at %s, %d now, %d differences" % (len(before), commit, len(after), len(found)))
+
+
 def main():
     parser = argparse.ArgumentParser(description=__doc__.split("\n")[0])
     parser.add_argument("crates", nargs="*")
     parser.add_argument("--check", action="store_true")
+    parser.add_argument("--since", metavar="COMMIT")
     options = parser.parse_args()
     if options.check:
         return check()
+    if options.since:
+        return since(options.since)
     unknown = [name for name in options.crates if name not in crates()]
     if unknown:
         parser.error("no crate is named " + ", ".join(unknown))
