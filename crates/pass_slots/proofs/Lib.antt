@@ -1,2 +1,4 @@
+pub mod Ends
 pub mod Looks
+pub mod Reversing
 pub mod Taken

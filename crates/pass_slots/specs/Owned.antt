@@ -1,5 +1,5 @@
 -- What a pass keeps of its slots at run time, besides what its view says.
-use Rattle.std.specs.Prelude.{◌≡◌, ℕ, ◌+◌, ◌<◌, List, Bool, Option, Some, length, ◌&&◌, true}
+use Rattle.std.specs.Prelude.{◌≡◌, ℕ, ◌+◌, ◌<◌, List, Bool, Option, Some, length, take, drop, reverse, ◌&&◌, true}
 use Rattle.std.specs.List.{slice_get}
 use Rattle.index_words.specs.declared.view.View.{View}
 use Rattle.index_words.specs.declared.view.slots.Looks.{Looks}
@@ -15,6 +15,16 @@ pub record SlotParts : Type 0 where
   pub batch : List ℕ
   pub retired : List ℕ
   pub room : ℕ
+
+-- the slots of one kind as one list has them: the retired ones, the last of them first, then those of the batch, the last
+-- of them first, and then the free ones
+abbrev pub parts_of : ℕ → ℕ → ℕ → List ℕ → SlotParts
+parts_of retired batch room slots = record {
+  free = drop (retired + batch) slots;
+  batch = reverse (take batch (drop retired slots));
+  retired = reverse (take retired slots);
+  room = room;
+}
 
 -- how many slots they are together
 abbrev pub slot_count : SlotParts → ℕ

@@ -44,7 +44,7 @@ fn slots_from(alloc: Global, first: u32, count: u32, room: u32) -> Result<OwnSlo
 }
 
 /// What a pass keeps at the start. It has room for all slots of the table, since a slot that it takes out becomes its
-/// own: 15 numbers of four bytes for each node slot.
+/// own: 5 numbers of four bytes for each node slot.
 fn first_kept(
     alloc: Global,
     layout: &Layout,
