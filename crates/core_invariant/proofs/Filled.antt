@@ -15,7 +15,7 @@ use Rattle.core_events.specs.FillMoves.{filled_other}
 use Rattle.core_invariant.specs.FilledRule.{IsOwnSlotWord, FilledRight}
 use Rattle.core_invariant.proofs.Frames.{every_map}
 
-and_false : (b : Bool) → (b && false) ≡ false
+pub and_false : (b : Bool) → (b && false) ≡ false
 and_false true = refl
 and_false false = refl
 

@@ -20,7 +20,7 @@ use Rattle.core_events.specs.FillMoves.{filled_with, with_filled, known_before, 
 use Rattle.core_events.specs.LoadMoves.{next_at}
 use Rattle.core_events.specs.LockMoves.{locked_view, met_lock}
 use Rattle.core_events.specs.Steps.{view_after, look_from, raised_from}
-use Rattle.core_invariant.proofs.HeldSlots.{slots_known, slots_found, slots_numbered, slots_marked, slots_paired, slots_link, slots_tag}
+use Rattle.core_invariant.proofs.Locked.{slots_known, slots_found, slots_numbered, slots_marked, slots_paired, slots_link, slots_tag}
 use Rattle.core_invariant.proofs.Groups.{Group, PartOf, part}
 use Rattle.core_invariant.proofs.Groups.Group.{Owner, Inside, Announcing, History, Counting, Snapshot, Tree, Standing, Links, Turns, Looking, Filling, Nodes, Locks, Nexts, Change, Pending, Unset, Owed, Leaving, Waiting, Free, Retired, Grace, Unused}
 

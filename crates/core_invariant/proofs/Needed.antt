@@ -31,7 +31,7 @@ use Rattle.core_events.specs.UpdateNeeds.{side_of, is_written, is_next_of, is_re
 use Rattle.core_invariant.specs.SeatRule.{SeatRight}
 use Rattle.core_invariant.specs.Meanings.{Meaning}
 use Rattle.core_invariant.proofs.Frames.{one_counted}
-use Rattle.core_invariant.proofs.HeldFacts.{locks-count}
+use Rattle.core_invariant.proofs.Locked.{locks-count}
 use Rattle.core_grace.specs.Slots.{own}
 use Rattle.core_invariant.specs.Rule.{Rule}
 use Rattle.core_invariant.proofs.OneView.{seat_at}

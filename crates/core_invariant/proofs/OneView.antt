@@ -1,9 +1,11 @@
--- Moves of one view's slots that keep the rule.
-use Rattle.std.proofs.Common.{◌≡◌, ℕ, ◌<◌, ◌≤◌, cond, List, [], ◌∷◌, length, Bool, true, false, eqb, set, arith, refl, ap, ◌∙◌, sym, subst, inl, inr, Option, Some, None}
+-- Moves of one view that keep the rule, of its slots and of the rest.
+use Rattle.std.proofs.Common.{◌≡◌, ℕ, ◌<◌, ◌≤◌, cond, List, [], ◌∷◌, length, Bool, true, false, eqb, set, arith, refl, ap, ◌∙◌, sym, subst, inl, inr, Option}
+use Rattle.std.proofs.Common.{Some, None, ◌+◌, ◌++◌}
 use Rattle.std.specs.Prelude.{IfSome}
 use Rattle.std.specs.List.{All, slice_get}
 use Rattle.std.proofs.lemmas.List.{set-get_or}
 use Rattle.std.proofs.lemmas.Bool.{and_parts, eq-eqb, eqb-true}
+use Rattle.std.proofs.lemmas.Option.{slice_get_within, get_or_from_slice_get}
 use Rattle.index_words.specs.declared.layout.Layout.{Layout}
 use Rattle.index_words.specs.declared.view.View.{View}
 use Rattle.index_words.specs.declared.view.slots.Slots.{Slots}
@@ -14,14 +16,18 @@ use Rattle.index_words.specs.declared.word.Field.TheVariants.{Mark}
 use Rattle.index_words.specs.declared.word.Word.TheVariants.{Stamp, Section, Announced, Node}
 use Rattle.index_words.specs.Views.{no_slots, no_looks}
 use Rattle.index_words.specs.Words.{Memory}
-use Rattle.key_map.specs.Lists.{count, Every, IsItem}
 use Rattle.index_words.proofs.Seats.{Beside, sum_kept, at_item, all_moved}
+use Rattle.index_words.specs.declared.view.history.SeenHistory.{SeenHistory}
+use Rattle.index_words.specs.declared.view.history.Counts.{Counts}
+use Rattle.index_words.specs.declared.view.update.Held.{Held}
+use Rattle.key_map.specs.Lists.{count, Every, IsItem}
 use Rattle.key_map.proofs.Counting.{count-append}
 use Rattle.core_grace.specs.Sections.{is_even}
 use Rattle.core_grace.specs.Batches.{is_empty, batch_taken, batch_freed, settled, looked_at, all_passed, is_number, both, apart_from}
-use Rattle.core_grace.specs.Holds.{HoldsNode, HoldsEntry}
+use Rattle.core_grace.specs.Holds.{HoldsNode, HoldsEntry, held_slots, listed, work_nodes}
 use Rattle.core_grace.specs.Slots.{HoldsNone, GraceRight, SlotRule}
 use Rattle.core_grace.proofs.RuleMoves.{HoldsFrom, KeepsSection, no_batch, quiet, take_batch, free_batch, all_passed_none, look_row, same_looks}
+use Rattle.core_events.specs.Moves.{own_number}
 use Rattle.core_invariant.specs.Meanings.{Meaning, linked_by}
 use Rattle.core_invariant.specs.Numbers.{number_count}
 use Rattle.core_invariant.specs.Histories.{HistoryRight, place_count, calls_left}
@@ -35,7 +41,7 @@ use Rattle.core_invariant.specs.LinkLaw.{IsRead}
 use Rattle.core_invariant.proofs.Frames.{live_moved, pending_moved, bundle_weaker, knows_moved}
 use Rattle.core_invariant.proofs.Pairs.{pairs_same}
 use Rattle.core_invariant.proofs.Idle.{idle_none, nameless_idle, section_of, number_low, number_apart}
-use Rattle.std.proofs.lemmas.Option.{slice_get_within, get_or_from_slice_get}
+use Rattle.core_invariant.specs.PruneRule.{PairsRight}
 
 -- putting an item at its own place
 pub set_same : {X : Type 0} (xs : List X) (i : ℕ) (x : X) → IsItem xs i x → set xs i x ≡ xs
@@ -223,3 +229,46 @@ module _ (z : Layout) (m : Memory) (vs : List View) (g : Meaning) where
       (quiet z (linked_by g) HoldsNode (HoldsEntry g.bundles) vs i v w at rule.slots refl refl refl (holds_slots v v.free v.retired v.batch v.grace n) (keeps_slots v v.free v.retired v.batch v.grace n)
       (λ known. same_looks z (linked_by g) HoldsNode (HoldsEntry g.bundles) v w w refl refl known)
       (λ u beside known. same_looks z (linked_by g) HoldsNode (HoldsEntry g.bundles) v w u refl refl known))
+
+-- A move of one view that keeps its slots and its update keeps the rule, if the rule on its seat is kept.
+
+-- the history of a view that has made and given up the same
+pub record SameMade (h h' : SeenHistory) : Type 0 where
+  pub mine : h'.mine ≡ h.mine
+  pub ended : h'.ended ≡ h.ended
+  pub ended_places : h'.ended_places ≡ h.ended_places
+  pub left : h'.left ≡ h.left
+
+module _ (z : Layout) (m : Memory) (vs : List View) (g : Meaning) (rule : Rule z m vs g) (i : ℕ) (v : View) (at : IsItem vs i v) (h : SeenHistory) (c : Counts) (r : Reading) (l : Held) where
+  -- the view has seen, read and loaded other things
+  abbrev pub moved : View
+  moved = record v { history = h; counts = c; reading = r; held = l }
+
+  pub quiet_kept : PairsRight (set vs i moved) → SameMade v.history h → (v.history.seen ≡ g.updates → h.seen ≡ g.updates) → held_slots l.nodes ≡ held_slots v.held.nodes
+      → HoldsFrom z (linked_by g) HoldsNode (HoldsEntry g.bundles) v moved → SeatRight z m g moved
+      → Rule z m (set vs i moved) g
+  quiet_kept pairs made known locks holds seat =
+      let work : work_nodes moved ≡ work_nodes v = ap (λ xs. xs ++ listed v.update.added) locks in
+      record {
+        numbers = λ n. sum_kept (number_count n) vs i v moved at (ap (λ xs. count n (own_number v.number) + (count n xs + count n v.to_give)) made.ended) ∙ rule.numbers n;
+        history = record {
+          long = rule.history.long;
+          known = knows_moved g.updates vs i v moved at known rule.history.known;
+          clients = rule.history.clients;
+          places = λ n p. sum_kept (place_count n p) vs i v moved at (cc) ∙ rule.history.places n p;
+          calls = omega (arith, rule.history.calls, sum_kept calls_left vs i v moved at made.left);
+          few = rule.history.few;
+        };
+        slots = quiet z (linked_by g) HoldsNode (HoldsEntry g.bundles) vs i v moved at rule.slots refl refl refl holds
+            (record { number = refl; section = inl refl })
+            (λ right. same_looks z (linked_by g) HoldsNode (HoldsEntry g.bundles) v moved moved refl refl right)
+            (λ u beside right. same_looks z (linked_by g) HoldsNode (HoldsEntry g.bundles) v moved u refl refl right);
+        locks = λ k. sum_kept (lock_count k) vs i v moved at (ap (count k) locks) ∙ rule.locks k;
+        tree = rule.tree;
+        marks = rule.marks;
+        bundles = λ k live side. bundle_weaker _ _ _ _ (IsPendingAt vs k) (IsPendingAt (set vs i moved) k) _ _
+            (λ e. pending_moved vs i k e v moved at refl (λ works. subst (λ xs. 0 < count k xs) (sym work) works)) (rule.bundles k (live_moved z vs i k v moved at (omega arith) live) side);
+        pairs = pairs;
+        single = λ e. omega (arith, sum_kept (pending_count e) vs i v moved at refl, rule.single e);
+        seats = all_moved (SeatRight z m g) (SeatRight z m g) vs i v moved at rule.seats seat (λ u beside of. of);
+      }

@@ -28,9 +28,8 @@ use Rattle.core_invariant.specs.SeatRule.{SeatRight}
 use Rattle.core_events.specs.LoadMoves.{with_held, with_place}
 use Rattle.core_invariant.specs.Rule.{Rule}
 use Rattle.core_invariant.proofs.Frames.{every_map}
-use Rattle.core_invariant.proofs.OneView.{seat_at}
+use Rattle.core_invariant.proofs.OneView.{seat_at, quiet_kept}
 use Rattle.core_invariant.proofs.Pairs.{pairs_same}
-use Rattle.core_invariant.proofs.Quiet.{quiet_kept}
 
 module _ (z : Layout) (m : Memory) (vs : List View) (g : Meaning) (rule : Rule z m vs g) where
   pub inside_only : (v : View) → is_even v.section_word ≡ false → is_even v.section_word ≡ true → ⊥

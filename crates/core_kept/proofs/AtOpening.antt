@@ -59,7 +59,7 @@ use Rattle.core_kept.proofs.TurnSeats.{has_read_nothing, none_leaving}
 use Rattle.core_invariant.specs.Rule.{InRule, IsRight}
 use Rattle.core_events.specs.Openings.{from_up, first_view, first_table}
 use Rattle.core_invariant.specs.SpentViews.{IsSpent}
-use Rattle.core_invariant.proofs.SpentViews.{live_spent}
+use Rattle.core_invariant.proofs.KeptViews.{live_spent}
 use Rattle.core_invariant.proofs.Idle.{idle_nodes, idle_entry}
 
 -- 1 for a number from `first` on, and 0 for any other one

@@ -22,7 +22,7 @@ use Rattle.core_invariant.specs.Rule.{Rule}
 use Rattle.core_invariant.proofs.Frames.{every_map}
 use Rattle.core_invariant.proofs.Locked.{locked_apart}
 use Rattle.core_invariant.proofs.Sides.{by_link}
-use Rattle.core_invariant.proofs.Cuts.{IsCutAt}
+use Rattle.core_invariant.proofs.AtEntries.{IsCutAt}
 use Rattle.core_kept.proofs.CutLists.{StandsBehind, reader_stands, holder_stands}
 use Rattle.core_kept.proofs.CutBundles.{cut_bundles}
 

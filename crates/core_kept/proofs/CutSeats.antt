@@ -40,15 +40,13 @@ use Rattle.core_invariant.specs.LinkLaw.{IsRead, Kept, SelectsSame}
 use Rattle.core_invariant.proofs.Frames.{every_map, every_at, live_moved, pending_moved, bundle_weaker, count-middle}
 use Rattle.core_invariant.proofs.BundleFrames.{bundle_frame}
 use Rattle.core_invariant.proofs.Sides.{by_link}
-use Rattle.core_invariant.proofs.AtEntries.{front_above}
+use Rattle.core_invariant.proofs.AtEntries.{front_above, IsCutAt}
 use Rattle.core_invariant.proofs.Pairs.{pairs_same}
 use Rattle.core_invariant.proofs.OneView.{history_kept, seat_at}
-use Rattle.core_invariant.proofs.Owned.{in_entries, not_in_bundle}
+use Rattle.core_invariant.proofs.Owned.{in_entries, not_in_bundle, in_one_bundle}
 use Rattle.core_invariant.proofs.Filled.{entry_other, every_filled}
 use Rattle.core_invariant.proofs.Locked.{locked_live}
-use Rattle.core_invariant.proofs.Apart.{in_one_bundle}
-use Rattle.core_invariant.proofs.TreeFrames.{SameNode, version_frame, reads_frame}
-use Rattle.core_invariant.proofs.Cuts.{IsCutAt}
+use Rattle.core_invariant.proofs.TreeNow.{SameNode, version_frame, reads_frame}
 use Rattle.core_kept.proofs.CutLists.{every_upto, falls_upto, tail_upto, chain_upto}
 use Rattle.core_kept.proofs.CutBundles.{select_cut, cut_here, cut_elsewhere, linked_cut, entries_fewer, reads_fewer, stands_fewer}
 use Rattle.core_kept.proofs.CutSlots.{slots_cut}

@@ -17,7 +17,7 @@ use Rattle.core_invariant.specs.Rule.{Rule}
 use Rattle.core_invariant.proofs.OneView.{taken, settled_right, look_right}
 use Rattle.core_kept.proofs.Stores.{section_stored}
 use Rattle.core_invariant.proofs.Needed.{outside_idle}
-use Rattle.core_invariant.proofs.Waits.{outside_none}
+use Rattle.core_invariant.proofs.WaitNeeds.{outside_none}
 use Rattle.core_kept.proofs.PlainWork.{work_kept}
 use Rattle.core_events.specs.Waits.{looked_waiting}
 use Rattle.core_grace.specs.Sections.{is_even}

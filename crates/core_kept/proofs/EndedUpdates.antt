@@ -34,7 +34,7 @@ use Rattle.core_invariant.specs.SearchRule.{unlinks, waits_for, waits, ClaimsAt,
 use Rattle.core_invariant.proofs.Frames.{same_item}
 use Rattle.core_invariant.proofs.OneView.{seat_at}
 use Rattle.core_invariant.proofs.Owned.{once_node}
-use Rattle.core_invariant.proofs.TreeNodes.{count_slots}
+use Rattle.core_invariant.proofs.TreeNow.{count_slots}
 use Rattle.core_kept.specs.SearchLaws.{SearchesAfter}
 use Rattle.core_kept.proofs.LinkItems.{SetBy, by_item, by_copy, set_by}
 use Rattle.core_kept.proofs.PlainNodes.{plain_clear}
@@ -46,9 +46,8 @@ use Rattle.core_invariant.proofs.Undone.{any_moved, bypasses_is, copies_is, pass
 use Rattle.plain_trees.specs.Claims.{IsWaiting, IsExcepted, Claims}
 use Rattle.plain_trees.specs.Matching.{Undone, IsUnset, IsOut, IsBypassed, IsHeir, HasWayAhead, Same, Replaced, Copied, LiftedRight, LiftedLeft, Matches}
 use Rattle.plain_trees.specs.Points.{Meets}
-use Rattle.plain_trees.proofs.Nodes.{top-or-below}
+use Rattle.plain_trees.proofs.Matched.{top-or-below, spelled-some}
 use Rattle.plain_trees.proofs.Points.{leads-keep, from-keep}
-use Rattle.plain_trees.proofs.Matched.{spelled-some}
 
 -- the link to the node is still to be set
 pub record IsLeft (u : Undone) (x : ℕ) : Type 0 where

@@ -29,8 +29,7 @@ use Rattle.core_invariant.specs.Rule.{Rule}
 use Rattle.core_invariant.proofs.Filled.{IsNotAmong, other_apart, other_every}
 use Rattle.core_invariant.proofs.Joins.{every_append}
 use Rattle.core_invariant.specs.UnusedSlots.{UnusedRight}
-use Rattle.core_invariant.proofs.OneView.{seat_at, set_same, used_right}
-use Rattle.core_invariant.proofs.Quiet.{quiet_kept}
+use Rattle.core_invariant.proofs.OneView.{seat_at, set_same, used_right, quiet_kept}
 use Rattle.core_invariant.proofs.ReadMoves.{inside_only}
 
 -- a view that knows of other filled words, which hold this

@@ -38,9 +38,9 @@ use Rattle.core_invariant.proofs.Frames.{every_map, every_named, every_at, all_i
 use Rattle.core_invariant.proofs.Filled.{node_other, entry_other, every_filled, node_apart, entry_apart, IsNotAmong, not_among}
 use Rattle.core_invariant.proofs.BundleFrames.{bundle_frame, select_in}
 use Rattle.core_invariant.proofs.Owned.{in_entries, once_node, once_entry, free_node_alone, free_node_waits, not_in_bundle, held_live, free_not_live, reachable_live}
-use Rattle.core_invariant.proofs.TreeFrames.{SameNode, child_at, version_frame, reads_frame, linked_live, read_live}
-use Rattle.core_invariant.proofs.HeldFacts.{held_holds, work_holds}
-use Rattle.core_invariant.proofs.LiveHeads.{head_apart}
+use Rattle.core_invariant.proofs.Owned.{head_apart}
+use Rattle.core_invariant.proofs.TreeNow.{SameNode, child_at, version_frame, reads_frame, linked_live, read_live}
+use Rattle.core_invariant.proofs.Locked.{held_holds, work_holds}
 
 -- the lock words are not filled
 lock_other : (m : Memory) (f : Field) (k j x : ℕ) → is_lock f ≡ false → written m (Node f k) x (Node Lock j) ≡ m (Node Lock j)

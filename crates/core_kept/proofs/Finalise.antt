@@ -36,12 +36,11 @@ use Rattle.core_invariant.specs.SeatRule.{SeatRight}
 use Rattle.core_events.specs.UpdateMoves.{finalised}
 use Rattle.core_invariant.specs.Rule.{Rule}
 use Rattle.core_invariant.proofs.Frames.{every_map, every_listed, every_at, live_moved}
-use Rattle.core_invariant.proofs.Without.{count-without_other, count-without-le, every_without}
+use Rattle.core_invariant.proofs.Passing.{count-without_other, count-without-le, every_without}
 use Rattle.core_invariant.proofs.OneView.{history_kept, seat_at}
-use Rattle.core_invariant.proofs.Owned.{held_live}
+use Rattle.core_invariant.proofs.Owned.{held_live, head_apart}
 use Rattle.core_invariant.proofs.Filled.{entry_other, every_filled, entry_apart}
-use Rattle.core_invariant.proofs.HeldFacts.{work_holds}
-use Rattle.core_invariant.proofs.LiveHeads.{head_apart}
+use Rattle.core_invariant.proofs.Locked.{work_holds}
 use Rattle.core_kept.proofs.WaitingLocks.{pending_inside}
 
 entry_same : (m : Memory) (e x : ℕ) → written m (Entry Number e) x (Entry Number e) ≡ x

@@ -35,7 +35,7 @@ use Rattle.core_invariant.specs.SearchRule.{unlinks, waits_for, waits, ClaimsAt,
 use Rattle.core_invariant.proofs.Frames.{every_map, all_items}
 use Rattle.core_invariant.proofs.OneView.{seat_at}
 use Rattle.core_invariant.proofs.Owned.{free_node_alone, free_node_waits}
-use Rattle.core_invariant.proofs.TreeNodes.{count_slots}
+use Rattle.core_invariant.proofs.TreeNow.{count_slots}
 use Rattle.core_kept.proofs.LinkItems.{ItemOf, items_of, by_item, by_copy, SetBy, set_by, near_of, child_there, passes_from}
 use Rattle.core_invariant.proofs.Undone.{Passing, any_item, any_from, copied_is, in_one, in_pair_second}
 use Rattle.core_kept.proofs.PlainNodes.{plain_clear}
@@ -46,7 +46,7 @@ use Rattle.plain_trees.specs.Matching.{IsUnset, IsBypassed}
 use Rattle.plain_trees.specs.Points.{point_of, Meets}
 use Rattle.plain_trees.specs.Raises.{Extends}
 use Rattle.plain_trees.specs.Reaching.{LeadTo}
-use Rattle.plain_trees.proofs.Extending.{still}
+use Rattle.plain_trees.proofs.Inserts.{still}
 
 -- a child of a node that is reached is reached
 lead_push : (g : Graph) (nodes : List ℕ) (a n : ℕ) (w : Side) → 0 < n → LeadTo g nodes a n → LeadTo g (nodes ++ n ∷ []) a (g.child w n)

@@ -38,16 +38,14 @@ use Rattle.core_invariant.specs.Locks.{lock_count}
 use Rattle.core_invariant.specs.Meanings.{Meaning}
 use Rattle.core_invariant.specs.Rule.{InRule}
 use Rattle.core_invariant.specs.UnusedSlots.{IsFreeWord, IsUnusedWord, UnusedRight}
-use Rattle.core_invariant.proofs.Cuts.{IsCutAt, cut_at}
+use Rattle.core_invariant.proofs.AtEntries.{IsCutAt, cut_at}
 use Rattle.core_invariant.proofs.Filled.{stamp_apart, section_apart, announced_apart, lock_apart, node_apart, entry_apart}
 use Rattle.core_invariant.proofs.Frames.{every_at, count-middle}
-use Rattle.core_invariant.proofs.HeldFacts.{work_holds, locks-count}
+use Rattle.core_invariant.proofs.Locked.{work_holds, locks-count, locked_live}
 use Rattle.core_invariant.proofs.WaitNeeds.{can_set}
-use Rattle.core_invariant.proofs.LiveHeads.{head_apart}
-use Rattle.core_invariant.proofs.Locked.{locked_live}
+use Rattle.core_invariant.proofs.Owned.{head_apart, held_live, not_in_bundle, in_entries, free_not_live}
 use Rattle.core_invariant.proofs.Needed.{ready_is}
 use Rattle.core_invariant.proofs.OneView.{seat_at}
-use Rattle.core_invariant.proofs.Owned.{held_live, not_in_bundle, in_entries, free_not_live}
 use Rattle.core_invariant.proofs.WordPrints.{stores, word_keeps}
 use Rattle.core_kept.proofs.RaiseCounts.{without_kept, taken_out}
 

@@ -26,7 +26,7 @@ use Rattle.core_invariant.proofs.Frames.{every_mapped}
 use Rattle.core_invariant.proofs.OneView.{seat_at}
 use Rattle.core_invariant.proofs.Owned.{reachable_live}
 use Rattle.core_invariant.proofs.ReadMoves.{reach_back, links_back, nexts_back, read_kept}
-use Rattle.core_invariant.proofs.HeldSlots.{slots_found}
+use Rattle.core_invariant.proofs.Locked.{slots_found}
 
 head_at : (e x : ℕ) (head : ℕ) (stamp : ℕ → ℕ) (l : LoadedHead) (c : Bool) → eqb l.entry e ≡ c → x ≡ stamp e → HeadRight head stamp l
     → HeadRight head stamp (cond c (record { entry = l.entry; stamp = Some x }) l)

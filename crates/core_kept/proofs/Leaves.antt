@@ -30,7 +30,7 @@ use Rattle.core_invariant.proofs.Filled.{every_filled, section_apart}
 use Rattle.core_invariant.proofs.Pairs.{announced_idle, pairs_idle}
 use Rattle.core_invariant.proofs.Idle.{number_apart}
 use Rattle.core_invariant.proofs.OneView.{history_kept, seat_at}
-use Rattle.core_invariant.proofs.Waits.{waiting_none}
+use Rattle.core_invariant.proofs.WaitNeeds.{waiting_none}
 use Rattle.core_kept.proofs.Stores.{apart_from, own_stored, other_stored}
 
 module _ (z : Layout) (linked : Linked) (hn he : View → ℕ → Type 0) (vs : List View) (rule : SlotRule z linked hn he vs) (i : ℕ) (v w : View)

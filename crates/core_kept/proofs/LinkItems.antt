@@ -35,7 +35,7 @@ use Rattle.core_invariant.proofs.PlainSteps.{link_parts}
 use Rattle.core_invariant.proofs.TreeNow.{names_once}
 use Rattle.core_invariant.proofs.Undone.{Passing, any_item, PassesAt, passes_is, ItemIs, item_is}
 use Rattle.plain_trees.specs.Matching.{Undone, IsUnset}
-use Rattle.plain_trees.proofs.OneLink.{led-in, one-link}
+use Rattle.plain_trees.proofs.Matched.{led-in, one-link}
 
 -- an item of the list that passes a test
 pub record AtItem (P : UnsetLink → Type 0) (us : List UnsetLink) (k : ℕ) (side : Side) (was child : ℕ) : Type 0 where

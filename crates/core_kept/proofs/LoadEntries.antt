@@ -27,10 +27,9 @@ use Rattle.core_invariant.proofs.OneView.{seat_at}
 use Rattle.core_invariant.proofs.Owned.{in_entries}
 use Rattle.core_invariant.proofs.ReadMoves.{watched_back, reach_back, passed_back, links_back, nexts_back, read_kept}
 use Rattle.core_kept.proofs.HeadLoads.{side_at, links_push}
-use Rattle.core_invariant.proofs.HeldFacts.{locks-count}
+use Rattle.core_invariant.proofs.Locked.{locks-count, slots_numbered}
 use Rattle.core_invariant.proofs.Falling.{next_falls}
 use Rattle.core_invariant.proofs.AtEntries.{chain_behind, selected_by, child_is, above_is, last_by, unlocked_is, right as right_there, inside as inside_there, bundle as bundle_there, stands as stands_there, member as member_of}
-use Rattle.core_invariant.proofs.HeldSlots.{slots_numbered}
 
 -- what follows an entry
 record Behind (next : ℕ → ℕ) (e : ℕ) (back : List ℕ) : Type 0 where

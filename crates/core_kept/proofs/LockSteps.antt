@@ -20,17 +20,15 @@ use Rattle.core_events.specs.LockMoves.{locked_view, names_other, met_lock, unlo
 use Rattle.core_invariant.specs.Reached.{plain_graph, ReachesRight}
 use Rattle.core_invariant.specs.Rule.{Rule}
 use Rattle.core_invariant.specs.LinkLaw.{Kept}
-use Rattle.core_invariant.proofs.HeldFacts.{locks-count}
+use Rattle.core_invariant.proofs.Locked.{locks-count, can_lock, slots_marked}
 use Rattle.core_events.proofs.Tests.{never, not_true}
 use Rattle.core_invariant.proofs.WaitNeeds.{nothing_is, unlinked_is}
-use Rattle.core_invariant.proofs.LockReach.{can_lock}
 use Rattle.core_kept.proofs.TryLocks.{lock_kept, met_kept}
 use Rattle.core_kept.proofs.Unlocks.{unlock_kept}
 use Rattle.core_kept.proofs.Marks.{load_mark_kept, mark_kept}
 use Rattle.core_kept.proofs.PlainKept.{quiet_work, locked_work, plain_quiet, plain_unlocked}
 use Rattle.core_invariant.specs.PlainRule.{child_at, greatest_of}
-use Rattle.core_invariant.proofs.StepGives.{kept_same}
-use Rattle.core_invariant.proofs.HeldSlots.{slots_marked}
+use Rattle.core_invariant.proofs.KeptViews.{kept_same}
 
 -- a lock word that names the pass
 record OwnLock (number : Option ℕ) (word : ℕ) : Type 0 where

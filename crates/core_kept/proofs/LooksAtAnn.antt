@@ -17,8 +17,7 @@ use Rattle.core_invariant.specs.PruneRule.{ReadsFrom, LookedRight, PairsRight}
 use Rattle.core_invariant.specs.SeatRule.{SeatRight}
 use Rattle.core_invariant.specs.Rule.{Rule}
 use Rattle.core_invariant.proofs.Frames.{every_map}
-use Rattle.core_invariant.proofs.OneView.{seat_at}
-use Rattle.core_invariant.proofs.Quiet.{quiet_kept}
+use Rattle.core_invariant.proofs.OneView.{seat_at, quiet_kept}
 
 smaller_by : (n word : ℕ) (a b : Bool) → ltb 0 word ≡ a → ltb (word - 1) n ≡ b → cond (a && b) (word - 1) n ≤ n
 smaller_by n word true true some less = let low : word - 1 < n = grind (arith, nat_tests) in omega (arith, low)

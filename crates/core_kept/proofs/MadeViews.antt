@@ -34,7 +34,7 @@ use Rattle.core_invariant.specs.Rule.{Rule, InRule}
 use Rattle.core_invariant.proofs.Frames.{bundle_weaker, knows_moved}
 use Rattle.core_invariant.proofs.OneView.{seat_at}
 use Rattle.core_invariant.proofs.Filled.{every_filled}
-use Rattle.core_invariant.proofs.SpentViews.{live_spent}
+use Rattle.core_invariant.proofs.KeptViews.{live_spent}
 use Rattle.core_kept.proofs.TwoViews.{WorksIf, count-take-drop, knows_push, idle_bare}
 use Rattle.core_kept.proofs.FreeWords.{LessOf, subset_less, less_right}
 use Rattle.core_kept.proofs.KnownHeld.{same_known}

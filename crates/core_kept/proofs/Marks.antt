@@ -35,10 +35,9 @@ use Rattle.core_invariant.proofs.Frames.{every_map, every_named, live_moved, pen
 use Rattle.core_invariant.proofs.OneView.{history_kept, seat_at}
 use Rattle.core_invariant.proofs.Owned.{once_node, free_not_live}
 use Rattle.core_invariant.proofs.Filled.{node_other, every_filled, node_apart}
-use Rattle.core_invariant.proofs.Locked.{locked_apart, locked_live}
+use Rattle.core_invariant.proofs.Locked.{locked_apart, locked_live, slots_marked, slots_paired}
 use Rattle.core_invariant.proofs.ReadMoves.{read_kept, place_back, links_back, nexts_back, work_same, holds_same}
 use Rattle.core_kept.proofs.WaitingLocks.{still_waits}
-use Rattle.core_invariant.proofs.HeldSlots.{slots_marked, slots_paired}
 
 module _ (z : Layout) (m : Memory) (vs : List View) (g : Meaning) (rule : Rule z m vs g) (i k x : ℕ) (v : View) (at : IsItem vs i v) where
   abbrev stamp : ℕ → ℕ

@@ -14,7 +14,7 @@ use Rattle.core_kept.proofs.SearchMoves.{claims_wider, place_wider, links_wider}
 use Rattle.plain_trees.specs.Claims.{IsWaiting}
 use Rattle.plain_trees.specs.Matching.{IsBypassed}
 use Rattle.plain_trees.specs.Raises.{Extends}
-use Rattle.plain_trees.proofs.Extending.{still}
+use Rattle.plain_trees.proofs.Inserts.{still}
 
 -- what one of the views passes one of the others passes
 module _ (g : Graph) (vs ws : List View) (now plain : NamedTree) (some : (test : View → Bool) → list_any test vs ≡ true → list_any test ws ≡ true) where

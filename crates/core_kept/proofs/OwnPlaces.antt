@@ -44,7 +44,7 @@ use Rattle.core_events.specs.Versions.{tree_nodes}
 use Rattle.core_events.specs.SpelledNow.{tree_now}
 use Rattle.core_events.specs.TreeMoves.{tree_move}
 use Rattle.core_events.specs.Steps.{needs, carries, view_after, views_after, join_found, raised_from}
-use Rattle.core_invariant.proofs.Longest.{longest_is}
+use Rattle.core_invariant.proofs.Passing.{longest_is}
 use Rattle.core_events.proofs.Tests.{stamp_named}
 use Rattle.core_invariant.proofs.Groups.{Group}
 use Rattle.core_invariant.proofs.Groups.Group.{Owner, History, Snapshot}

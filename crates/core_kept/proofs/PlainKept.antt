@@ -44,10 +44,9 @@ use Rattle.core_invariant.proofs.BundleFrames.{select_in, select_low}
 use Rattle.core_invariant.proofs.Filled.{node_other, entry_other}
 use Rattle.core_invariant.proofs.Frames.{every_map}
 use Rattle.core_invariant.proofs.Owned.{free_not_live, not_in_bundle, in_entries}
-use Rattle.core_invariant.proofs.Passing.{none_passing, both_hold, none_left}
+use Rattle.core_invariant.proofs.Passing.{none_passing, both_hold, none_left, count-without_other}
 use Rattle.core_invariant.proofs.PlainFrames.{HasSameWork, seat_at, idle_seat, plain_seat, plain_moved, plain_pushed, plain_joined, plain_framed, plain_selected}
 use Rattle.core_invariant.proofs.TreeNow.{link_live}
-use Rattle.core_invariant.proofs.Without.{count-without_other}
 use Rattle.core_kept.proofs.TryLocks.{slots_push}
 use Rattle.core_kept.proofs.Unlocks.{slots_other}
 

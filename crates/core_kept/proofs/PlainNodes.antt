@@ -24,10 +24,10 @@ use Rattle.core_invariant.specs.Rule.{Rule}
 use Rattle.core_invariant.proofs.Frames.{Term, term_of, same_item}
 use Rattle.core_invariant.proofs.OneView.{seat_at}
 use Rattle.core_invariant.proofs.Owned.{once_node, slot_high}
-use Rattle.core_invariant.proofs.TreeNodes.{count_slots}
+use Rattle.core_invariant.proofs.TreeNow.{count_slots}
 use Rattle.core_invariant.proofs.Undone.{Passing, any_item}
 use Rattle.core_kept.proofs.ReachMoves.{IsClear}
-use Rattle.plain_trees.proofs.Nodes.{in-now}
+use Rattle.plain_trees.proofs.Matched.{in-now}
 
 module _ (z : Layout) (m : Memory) (vs : List View) (g : Meaning) (rule : Rule z m vs g) where
   -- a node that is at most once in the lists of all views is in no free list and no batch where one view has it retired

@@ -24,12 +24,11 @@ use Rattle.core_invariant.specs.Meanings.{Meaning}
 use Rattle.core_invariant.specs.PlainRule.{unset_count, owed_count, child_at, greatest_of, UnsetRight, OwedRight, SeatPlain, PlainRight}
 use Rattle.core_invariant.specs.Rule.{Rule}
 use Rattle.core_invariant.proofs.Frames.{every_map}
-use Rattle.core_invariant.proofs.Locked.{locked_apart}
+use Rattle.core_invariant.proofs.Locked.{locked_apart, slots_link, slots_tag}
 use Rattle.core_invariant.proofs.Passing.{Passing, passing, counted_any}
 use Rattle.core_invariant.proofs.PlainSteps.{link_parts, tag_parts, link_named}
 use Rattle.core_invariant.proofs.Sides.{same_side-refl, same_side-true}
 use Rattle.core_kept.proofs.Unlocks.{every_filter}
-use Rattle.core_invariant.proofs.HeldSlots.{slots_link, slots_tag}
 
 -- items that pass a test are gone where the others are kept, and those that pass another one stay
 gone : {X : Type 0} (f : X → Bool) (xs : List X) → length (filter f (filter (λ x. not (f x)) xs)) ≡ 0

@@ -20,12 +20,11 @@ use Rattle.core_invariant.specs.MeaningMoves.{prepared_meaning}
 use Rattle.core_invariant.specs.Rule.{Rule}
 use Rattle.core_invariant.proofs.OneView.{seat_at}
 use Rattle.core_invariant.proofs.Owned.{own_waiting, in_entries, once_node, once_entry, not_in_bundle, reachable_live}
-use Rattle.core_invariant.proofs.Without.{count-without_same, count-without_other}
+use Rattle.core_invariant.proofs.Passing.{count-without_same, count-without_other}
 use Rattle.core_invariant.proofs.SlotLinks.{one_at, Links, slots_linked}
 use Rattle.core_invariant.proofs.Fronts.{fronted, count-fronted, linked-fronted, reads-fronted, stands-fronted}
-use Rattle.core_invariant.proofs.Locked.{locked_linked}
+use Rattle.core_invariant.proofs.Locked.{locked_linked, slots_known}
 use Rattle.core_invariant.proofs.Needed.{Ready}
-use Rattle.core_invariant.proofs.HeldSlots.{slots_known}
 
 module _ (z : Layout) (m : Memory) (vs : List View) (g : Meaning) (rule : Rule z m vs g) (i k e : ℕ) (side : Side) (v : View) (at : IsItem vs i v)
     (ready : Ready m v side k e) where

@@ -25,11 +25,9 @@ use Rattle.core_invariant.specs.Rule.{Rule}
 use Rattle.core_invariant.proofs.Frames.{every_map, every_listed, every_at, Term, term_of, live_moved}
 use Rattle.core_invariant.proofs.BundleFrames.{falls_frame, falls_below, all_written, select_frame}
 use Rattle.core_invariant.proofs.OneView.{seat_at}
-use Rattle.core_invariant.proofs.Owned.{in_entries, held_live, not_in_bundle, free_entry_some}
-use Rattle.core_invariant.proofs.HeldFacts.{work_holds}
-use Rattle.core_invariant.proofs.LiveHeads.{head_apart}
+use Rattle.core_invariant.proofs.Owned.{in_entries, held_live, not_in_bundle, free_entry_some, head_apart}
+use Rattle.core_invariant.proofs.Locked.{work_holds, locked_live}
 use Rattle.core_invariant.proofs.Fronts.{numbered_other, numbered_new}
-use Rattle.core_invariant.proofs.Locked.{locked_live}
 use Rattle.core_invariant.proofs.Sides.{same_side-true}
 use Rattle.core_invariant.proofs.Needed.{Ready}
 use Rattle.core_kept.proofs.Prepare.{same_locks, same_work}

@@ -29,7 +29,7 @@ use Rattle.core_invariant.specs.Rule.{Rule}
 use Rattle.core_invariant.proofs.Frames.{every_map, every_listed}
 use Rattle.core_invariant.proofs.OneView.{seat_at}
 use Rattle.core_invariant.proofs.Owned.{reachable_live}
-use Rattle.core_invariant.proofs.TreeFrames.{SameNode, reads_frame, read_live}
+use Rattle.core_invariant.proofs.TreeNow.{SameNode, reads_frame, read_live}
 use Rattle.core_invariant.proofs.Fronts.{count-fronted, numbered_other, numbered_new}
 use Rattle.core_invariant.proofs.Needed.{Ready}
 use Rattle.core_kept.proofs.PrepareBundles.{not_pending, selects, above_still, pending_head}

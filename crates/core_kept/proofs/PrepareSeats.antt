@@ -35,10 +35,10 @@ use Rattle.core_invariant.specs.Rule.{Rule}
 use Rattle.core_invariant.specs.LinkLaw.{IsRead, Kept, SelectsSame}
 use Rattle.core_invariant.proofs.Frames.{every_listed, every_named, every_mapped}
 use Rattle.core_invariant.proofs.Filled.{node_other, every_filled, node_apart}
-use Rattle.core_invariant.proofs.Without.{count-without-le}
+use Rattle.core_invariant.proofs.Passing.{count-without-le}
 use Rattle.core_invariant.proofs.OneView.{history_kept, seat_at, read_past}
 use Rattle.core_invariant.proofs.Owned.{free_entry_some, free_not_live}
-use Rattle.core_invariant.proofs.TreeFrames.{version_frame, linked_live}
+use Rattle.core_invariant.proofs.TreeNow.{version_frame, linked_live, stamp_low}
 use Rattle.core_invariant.proofs.Fronts.{numbered_other, numbered_new}
 use Rattle.core_invariant.proofs.Locked.{locked_live, locked_apart}
 use Rattle.core_invariant.proofs.Needed.{Ready}
@@ -46,7 +46,6 @@ use Rattle.core_kept.proofs.Prepare.{same_locks, same_work, prepared_slots}
 use Rattle.core_invariant.proofs.Sides.{same_side-refl}
 use Rattle.core_kept.proofs.PrepareBundles.{not_pending, pending_same, new_pending, bundle_now, selects, pending_head}
 use Rattle.core_grace.specs.Slots.{nodes_of, own_free}
-use Rattle.core_invariant.proofs.TreeNow.{stamp_low}
 use Rattle.core_kept.proofs.PlainKept.{quiet_work, plain_quiet, plain_same}
 use Rattle.core_kept.proofs.WaitingLocks.{unraised_inside}
 use Rattle.core_kept.proofs.PreparePlaces.{node_same, place_now, links_now, tree_now, nexts_now, pending_now}

@@ -18,7 +18,7 @@ use Rattle.core_events.specs.LoadMoves.{next_at, is_above}
 use Rattle.core_events.specs.Steps.{head_at, head_from, ts_from, ptr_from, next_from, prepared_at, prepared_from, finalised_from, mark_from, marked_from, pair_from, ann_from, cut_from, tag_at, tag_from, raised_tag_at, raised_tag_from}
 use Rattle.core_kept.proofs.SearchMoves.{work_of, SearchStep}
 use Rattle.core_kept.proofs.SearchSteps.{bundle_said, tagged_said, known_said, paired_said, cut_said, child_said}
-use Rattle.core_invariant.proofs.HeldSlots.{slots_found, slots_known, slots_numbered, slots_marked, slots_paired, slots_tag}
+use Rattle.core_invariant.proofs.Locked.{slots_found, slots_known, slots_numbered, slots_marked, slots_paired, slots_tag}
 
 module _ (C : Option ℕ → Option ℕ → ℕ → Type 0) (key_of : ℕ → ℕ) where
   -- the view has the same to do and the same locks, and what is said of its search goes over

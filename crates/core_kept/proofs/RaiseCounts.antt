@@ -14,7 +14,7 @@ use Rattle.core_trees.specs.Slots.{tally, one_at, MovesSlots}
 use Rattle.core_events.specs.UpdateMoves.{without_all}
 use Rattle.core_events.specs.Versions.{tree_nodes, top_slot, slots_of}
 use Rattle.core_invariant.proofs.Frames.{one_counted}
-use Rattle.core_invariant.proofs.TreeNodes.{count_slots}
+use Rattle.core_invariant.proofs.TreeNow.{count_slots}
 
 slots_branch : (slot key val : ℕ) (l r : NamedTree) → slots_of (Branch slot key val l r) ≡ slots_of l ++ slot ∷ slots_of r
 slots_branch slot key val l r =

@@ -29,8 +29,7 @@ use Rattle.core_invariant.specs.Rule.{Rule}
 use Rattle.core_invariant.proofs.Passing.{Passing as Found, passing, both_hold}
 use Rattle.core_invariant.proofs.Sides.{same_side-true}
 use Rattle.core_kept.proofs.LinkItems.{locked_in}
-use Rattle.core_invariant.proofs.UnsetLinks.{no_links, waiting_out}
-use Rattle.core_invariant.proofs.Undone.{stays, orderly}
+use Rattle.core_invariant.proofs.Undone.{no_links, waiting_out, stays, orderly}
 use Rattle.core_kept.proofs.WalkSteps.{between_is}
 use Rattle.plain_trees.specs.Matching.{Undone}
 use Rattle.plain_trees.specs.NullLinks.{turn_of}

@@ -28,7 +28,7 @@ use Rattle.core_kept.proofs.LinkItems.{now, locked_in}
 use Rattle.core_kept.proofs.PlainNodes.{plain_clear}
 use Rattle.core_kept.proofs.RaisePuts.{plain_link}
 use Rattle.core_invariant.proofs.Undone.{in_one, in_pair_second}
-use Rattle.plain_trees.proofs.OneLink.{led-in}
+use Rattle.plain_trees.proofs.Matched.{led-in}
 
 module _ (z : Layout) (m : Memory) (vs : List View) (g : Meaning) (rule : Rule z m vs g) (plain : PlainRight m vs g) (W : NamedTree)
     (trees : IsPlainTree (plain_graph m) vs g.tree W) (i : ℕ) (v : View) (at : IsItem vs i v) (quiet : v.update.raised ≡ None)

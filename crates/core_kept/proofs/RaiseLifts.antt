@@ -37,7 +37,7 @@ use Rattle.core_invariant.specs.PlainTree.{undone, ItemRight, AreApart, SeatInTr
 use Rattle.core_invariant.specs.Reached.{plain_graph}
 use Rattle.core_invariant.specs.Rule.{Rule}
 use Rattle.core_invariant.proofs.Children.{top_link, subtree_child, spelled_child, leads_link, end_outside}
-use Rattle.core_invariant.proofs.HeldFacts.{locks-count}
+use Rattle.core_invariant.proofs.Locked.{locks-count}
 use Rattle.core_invariant.proofs.Needed.{CanRaise}
 use Rattle.core_invariant.proofs.TreeNow.{names_once}
 use Rattle.core_kept.proofs.LinkItems.{now, same_child}

@@ -35,13 +35,11 @@ use Rattle.core_invariant.specs.PlainRule.{selected_of, child_at, greatest_of}
 use Rattle.core_invariant.specs.Rule.{Rule}
 use Rattle.core_invariant.proofs.BundleFrames.{select_low, select_next, chain_some}
 use Rattle.core_invariant.proofs.Children.{link_leads, spelled_child}
-use Rattle.core_invariant.proofs.HeldFacts.{locks-count}
+use Rattle.core_invariant.proofs.Locked.{locks-count}
 use Rattle.core_invariant.proofs.Needed.{CanRaise}
 use Rattle.core_invariant.proofs.Passing.{Passing, passing, any_counted}
-use Rattle.core_invariant.proofs.PlainMoves.{Sets}
-use Rattle.core_invariant.proofs.PlainSteps.{link_parts, IsNulled}
-use Rattle.core_invariant.proofs.TreeNodes.{count_slots}
-use Rattle.core_invariant.proofs.TreeNow.{link_live}
+use Rattle.core_invariant.proofs.PlainSteps.{Sets, link_parts, IsNulled}
+use Rattle.core_invariant.proofs.TreeNow.{count_slots, link_live}
 use Rattle.core_kept.proofs.RaiseBundles.{new_head}
 use Rattle.core_kept.proofs.RaiseNew.{linked_old, live_bundle, new_bundle}
 use Rattle.core_kept.proofs.RaiseNumbers.{numbered_now, selects_old}

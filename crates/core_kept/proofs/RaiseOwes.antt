@@ -23,7 +23,7 @@ use Rattle.core_events.specs.UpdateNeeds.{may_raise_number, may_raise}
 use Rattle.core_events.proofs.Tests.{never}
 use Rattle.core_invariant.specs.Meanings.{Meaning}
 use Rattle.core_invariant.specs.Rule.{Rule, InRule}
-use Rattle.core_invariant.proofs.Longest.{longest_is}
+use Rattle.core_invariant.proofs.Passing.{longest_is}
 use Rattle.core_invariant.proofs.Needed.{CanRaise, can_raise}
 use Rattle.core_invariant.proofs.TreeNow.{child_is, link_live, tree_is}
 use Rattle.core_kept.specs.RaiseOwes.{OwesNulled, OwesLaw}

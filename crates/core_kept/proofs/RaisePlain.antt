@@ -33,12 +33,10 @@ use Rattle.core_invariant.specs.Meanings.{Meaning}
 use Rattle.core_invariant.specs.PlainRule.{unset_count, owed_count, child_at, greatest_of, UnsetRight, OwedRight, SeatPlain, PlainRight}
 use Rattle.core_invariant.specs.Rule.{Rule}
 use Rattle.core_invariant.proofs.Frames.{Term, term_of, every_map}
-use Rattle.core_invariant.proofs.HeldFacts.{locks-count}
-use Rattle.core_invariant.proofs.Locked.{locked_apart}
+use Rattle.core_invariant.proofs.Locked.{locks-count, locked_apart}
 use Rattle.core_invariant.proofs.Needed.{CanRaise}
 use Rattle.core_invariant.proofs.Passing.{Passing, passing, any_counted, both_hold}
-use Rattle.core_invariant.proofs.PlainMoves.{Sets}
-use Rattle.core_invariant.proofs.PlainSteps.{tag_parts, link_named, IsWork}
+use Rattle.core_invariant.proofs.PlainSteps.{Sets, tag_parts, link_named, IsWork}
 use Rattle.core_invariant.proofs.TreeSteps.{count_sum}
 use Rattle.core_kept.proofs.TreeMoved.{MovesTree, meaning_after}
 use Rattle.core_kept.proofs.RaiseLinks.{old_apart, was_old, kept_child, sets_locked, new_selected, old_low, greatest_grows, rises_at}

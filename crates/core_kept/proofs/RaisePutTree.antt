@@ -36,7 +36,7 @@ use Rattle.core_invariant.specs.Reached.{plain_graph}
 use Rattle.core_invariant.specs.SearchRule.{SearchRight}
 use Rattle.core_invariant.specs.Rule.{Rule}
 use Rattle.core_invariant.proofs.Children.{top_link, subtree_child, spelled_child, leads_link}
-use Rattle.core_invariant.proofs.HeldFacts.{locks-count}
+use Rattle.core_invariant.proofs.Locked.{locks-count}
 use Rattle.core_kept.proofs.LinkItems.{now, child_there, locked_in}
 use Rattle.core_kept.proofs.RaiseItems.{insert_item, replace_item}
 use Rattle.core_kept.proofs.RaisePuts.{plain_link, insert_matches, replace_matches}

@@ -39,10 +39,9 @@ use Rattle.core_invariant.proofs.Passing.{Passing as Found, passing, any_counted
 use Rattle.core_invariant.proofs.PlainSteps.{link_parts}
 use Rattle.core_invariant.proofs.Sides.{same_side-refl}
 use Rattle.core_kept.proofs.LinkItems.{now, ItemOf, items_of, same_child}
-use Rattle.core_invariant.proofs.Undone.{stays, any_from, orderly}
+use Rattle.core_invariant.proofs.Undone.{stays, any_from, orderly, no_links}
 use Rattle.core_kept.proofs.RaiseGap.{gap_ends}
 use Rattle.core_kept.proofs.RaiseTree.{not_mine, settled, extends}
-use Rattle.core_invariant.proofs.UnsetLinks.{no_links}
 use Rattle.core_kept.proofs.TreeMoved.{MovesTree}
 use Rattle.plain_trees.specs.Matching.{Undone, IsUnset, IsOut, Matches}
 use Rattle.plain_trees.specs.Raises.{IsFoundAt, IsLinkTo}

@@ -37,11 +37,11 @@ use Rattle.core_invariant.specs.PlainTree.{IsPlainTree}
 use Rattle.core_invariant.specs.Reached.{plain_graph}
 use Rattle.core_invariant.specs.Rule.{Rule}
 use Rattle.core_invariant.proofs.Children.{IsChildAt, top_link, subtree_child, spelled_child, leads_link, first_leads, first_some}
-use Rattle.core_invariant.proofs.HeldFacts.{locks-count}
+use Rattle.core_invariant.proofs.Locked.{locks-count}
 use Rattle.core_invariant.proofs.Needed.{CanRaise}
 use Rattle.core_invariant.proofs.Owned.{free_node_alone}
-use Rattle.core_invariant.proofs.PlainMoves.{far_inside}
-use Rattle.core_invariant.proofs.TreeNodes.{count_slots}
+use Rattle.core_invariant.proofs.PlainSteps.{far_inside}
+use Rattle.core_invariant.proofs.TreeNow.{count_slots}
 use Rattle.core_kept.proofs.LinkItems.{now, child_there, same_child}
 use Rattle.core_kept.proofs.RaiseItems.{near_item, far_first, far_second}
 use Rattle.core_kept.proofs.RaiseLifts.{spelled_top, hangs, in_whole, once_below, after_spelled, locked, own_seat, whole, RemovedNode, removed_node, right_lifted, left_lifted}

@@ -39,7 +39,7 @@ use Rattle.core_invariant.specs.PlainTree.{undone, SeatInTree, IsPlainTree}
 use Rattle.core_invariant.specs.Reached.{plain_graph, has_let, HoldsPlain, ReachesRight, ReachRight}
 use Rattle.core_invariant.specs.Rule.{Rule, InRule}
 use Rattle.core_invariant.specs.SearchRule.{unlinks, waits_for, waits, ClaimsAt, SearchRight}
-use Rattle.core_invariant.proofs.Longest.{longest_is}
+use Rattle.core_invariant.proofs.Passing.{longest_is}
 use Rattle.core_invariant.proofs.Needed.{CanRaise, can_raise}
 use Rattle.core_invariant.proofs.OneView.{seat_at}
 use Rattle.core_invariant.proofs.TreeNow.{tree_is}

@@ -34,8 +34,7 @@ use Rattle.core_invariant.proofs.Owned.{free_not_live}
 use Rattle.core_invariant.proofs.TreeSteps.{count_sum}
 use Rattle.core_kept.proofs.LinkItems.{now, SetBy, by_item, by_copy, set_by, near_of, locked_in, new_links, child_there, same_child}
 use Rattle.core_kept.proofs.TreeMoved.{MovesTree}
-use Rattle.core_invariant.proofs.Undone.{any_moved, copied_is}
-use Rattle.core_invariant.proofs.UnsetLinks.{none_unset, no_links}
+use Rattle.core_invariant.proofs.Undone.{any_moved, copied_is, none_unset, no_links}
 use Rattle.plain_trees.specs.Matching.{Undone}
 use Rattle.plain_trees.specs.Raises.{Extends, IsSettled}
 

@@ -36,7 +36,7 @@ use Rattle.core_invariant.proofs.OneView.{seat_at}
 use Rattle.core_invariant.proofs.Owned.{held_live, reachable_live}
 use Rattle.core_invariant.proofs.Needed.{CanRaise}
 use Rattle.core_kept.proofs.RaiseNew.{live_bundle, live_old}
-use Rattle.core_invariant.proofs.TreeNodes.{count_slots}
+use Rattle.core_invariant.proofs.TreeNow.{count_slots}
 use Rattle.core_kept.proofs.RaiseNumbers.{old_falls, selects_old, selects, select-between}
 
 one_other : (a b : ℕ) → cond (eqb a b) 1 0 + 0 ≡ cond (eqb b a) 1 0 + 0

@@ -35,7 +35,7 @@ use Rattle.core_kept.proofs.ReachSteps.{head_calm, ts_calm, ptr_calm, next_calm,
 use Rattle.core_kept.proofs.SearchMoves.{Work, work_of, same_undone, tree_moved, searches_moved, same_waits, own_waits, claims_wider, place_wider, links_wider, NoClaims, own_moved}
 use Rattle.core_invariant.proofs.SearchNodes.{IsCalm, calm_reach, still_same}
 use Rattle.core_kept.proofs.WalkSteps.{Walk, walk_of, place_walked, links_walked, walk_keys, walk_reach}
-use Rattle.core_invariant.proofs.HeldSlots.{slots_link}
+use Rattle.core_invariant.proofs.Locked.{slots_link}
 
 -- the facts of a move of one view, over the plain graph
 module _ (z : Layout) (gr : Graph) (vs : List View) (now W : NamedTree) (trees : IsPlainTree gr vs now W) (searches : All (SearchRight gr vs now W) vs)

@@ -32,7 +32,7 @@ use Rattle.core_kept.proofs.SearchStores.{stored}
 use Rattle.core_invariant.proofs.Undone.{any_moved}
 use Rattle.core_kept.proofs.WaitItems.{waiting_items}
 use Rattle.plain_trees.specs.Raises.{Extends}
-use Rattle.plain_trees.proofs.Extending.{still}
+use Rattle.plain_trees.proofs.Inserts.{still}
 
 -- a node that is bypassed still is where the node that was brought in is forgotten
 still_bypassed : (taken : List ℕ) (added : Option ℕ) (k : ℕ) → bypasses taken added k ≡ true → bypasses taken None k ≡ true

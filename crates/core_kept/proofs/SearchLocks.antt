@@ -32,7 +32,7 @@ use Rattle.core_invariant.specs.Reached.{plain_graph, ReachesRight}
 use Rattle.core_invariant.specs.Rule.{InRule}
 use Rattle.core_invariant.specs.SearchRule.{ClaimsAt, SearchRight}
 use Rattle.core_kept.specs.SearchLaws.{SearchesAfter, KeepsSearchesAt}
-use Rattle.core_invariant.proofs.LockReach.{searched}
+use Rattle.core_invariant.proofs.Locked.{searched}
 use Rattle.core_kept.proofs.ReachSteps.{lock_calm}
 use Rattle.core_kept.proofs.SearchKept.{reach_kept, quiet_after}
 use Rattle.core_kept.proofs.SearchMoves.{same_undone, tree_moved, searches_moved, same_waits, SearchStep, NoClaims, own_moved}

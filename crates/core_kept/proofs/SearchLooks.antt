@@ -23,7 +23,7 @@ use Rattle.core_invariant.specs.SectionRule.{IsIdle}
 use Rattle.core_invariant.proofs.Idle.{section_of}
 use Rattle.core_invariant.proofs.Needed.{own_section, outside_idle}
 use Rattle.core_invariant.proofs.OneView.{look_right, seat_at, taken}
-use Rattle.core_invariant.proofs.Waits.{outside_none}
+use Rattle.core_invariant.proofs.WaitNeeds.{outside_none}
 use Rattle.core_kept.specs.SearchLaws.{SearchesAfter, KeepsSearchesAt}
 use Rattle.core_kept.proofs.EachKind.{taken_number}
 use Rattle.core_kept.proofs.LooksLetting.{let_stays}

@@ -30,7 +30,7 @@ use Rattle.plain_trees.specs.Claims.{IsWaiting, IsExcepted, Claims}
 use Rattle.plain_trees.specs.Matching.{IsBypassed}
 use Rattle.plain_trees.specs.Points.{Meets}
 use Rattle.plain_trees.specs.Raises.{Extends}
-use Rattle.plain_trees.proofs.Extending.{still}
+use Rattle.plain_trees.proofs.Inserts.{still}
 use Rattle.plain_trees.proofs.Points.{from-keep}
 
 -- what is claimed with less bypassed and fewer that wait is claimed with more

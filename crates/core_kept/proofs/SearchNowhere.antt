@@ -44,7 +44,7 @@ use Rattle.core_kept.proofs.SearchStores.{stored}
 use Rattle.core_kept.proofs.SetSearch.{searches_set, reach_set}
 use Rattle.core_kept.proofs.SetTree.{tree', tree_set}
 use Rattle.plain_trees.specs.Reaching.{LeadTo, IsReached}
-use Rattle.plain_trees.proofs.Reaching.{reached_in}
+use Rattle.plain_trees.proofs.Matched.{reached_in}
 
 -- a node that is reached from the root's child is in the plain tree
 module _ (g : Graph) (W : NamedTree) (spelled : IsSpelled g (g.child Right 0) W) where

@@ -27,7 +27,7 @@ use Rattle.core_invariant.specs.Locks.{lock_count}
 use Rattle.core_invariant.specs.PlainRule.{child_at, greatest_of}
 use Rattle.core_invariant.specs.Reached.{plain_graph}
 use Rattle.core_invariant.specs.Rule.{InRule}
-use Rattle.core_invariant.proofs.Without.{count-without-le}
+use Rattle.core_invariant.proofs.Passing.{count-without-le}
 use Rattle.core_kept.specs.SearchLaws.{SearchesAfter, KeepsSearchesAt}
 use Rattle.core_kept.proofs.EndedUpdates.{ended_after}
 use Rattle.core_kept.proofs.PlainKept.{last_unset}

@@ -38,7 +38,7 @@ use Rattle.core_kept.proofs.SearchMoves.{search_wider}
 use Rattle.core_invariant.proofs.Undone.{any_moved}
 use Rattle.core_kept.proofs.WaitItems.{waiting_items}
 use Rattle.plain_trees.specs.Raises.{Extends}
-use Rattle.plain_trees.proofs.Extending.{still}
+use Rattle.plain_trees.proofs.Inserts.{still}
 
 -- an update that waits for a seat still does after a look
 still_waits : (b : Bool) (l l' : Bool) → (l ≡ false → l' ≡ false) → (b && not l) ≡ true → (b && not l') ≡ true

@@ -29,7 +29,7 @@ use Rattle.core_kept.specs.KeepsSeen.{IsBeginning, IsWhole, IsTold, KeepsSeen}
 use Rattle.core_invariant.proofs.OneView.{item_from_get, seat_at}
 use Rattle.core_invariant.proofs.Frames.{same_item}
 use Rattle.core_invariant.proofs.Joins.{Begins, begins-le, longer_long, longer_begins}
-use Rattle.core_invariant.proofs.Longest.{longest_is}
+use Rattle.core_invariant.proofs.Passing.{longest_is}
 use Rattle.core_events.proofs.Tests.{never, not_equal, stamp_named}
 use Rattle.core_events.proofs.Allowed.{stamp_needs}
 use Rattle.core_invariant.proofs.Groups.Group.{History}

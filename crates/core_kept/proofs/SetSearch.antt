@@ -52,8 +52,7 @@ use Rattle.plain_trees.specs.Matching.{Undone}
 use Rattle.plain_trees.specs.Reaching.{LeadTo, IsReached}
 use Rattle.plain_trees.specs.Settling.{IsSet}
 use Rattle.plain_trees.specs.Stores.{ReachesNoNew}
-use Rattle.plain_trees.proofs.Reaching.{reach_law, reached_in}
-use Rattle.plain_trees.proofs.Matched.{spelled-some}
+use Rattle.plain_trees.proofs.Matched.{reach_law, reached_in, spelled-some}
 use Rattle.core_kept.proofs.SetClaims.{claims_set}
 
 -- a way reaches the node at which it ends

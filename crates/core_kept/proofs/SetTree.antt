@@ -29,7 +29,7 @@ use Rattle.core_invariant.specs.PlainTree.{undone, BringsChild, HasChild, Copies
 use Rattle.core_invariant.specs.Reached.{plain_graph}
 use Rattle.core_invariant.specs.Rule.{Rule}
 use Rattle.core_invariant.proofs.Frames.{every_map}
-use Rattle.core_invariant.proofs.Locked.{locked_apart}
+use Rattle.core_invariant.proofs.Locked.{locked_apart, slots_link}
 use Rattle.core_invariant.proofs.Sides.{same_side-refl}
 use Rattle.core_invariant.proofs.WaitNeeds.{CanSet}
 use Rattle.core_kept.proofs.LinkItems.{now, ItemOf, items_of, new_links, child_there, same_child}
@@ -40,7 +40,6 @@ use Rattle.plain_trees.specs.Matching.{IsOut}
 use Rattle.plain_trees.specs.Settling.{IsSet}
 use Rattle.plain_trees.proofs.Matched.{spelled-some}
 use Rattle.plain_trees.proofs.Settling.{set_law}
-use Rattle.core_invariant.proofs.HeldSlots.{slots_link}
 
 or_left : (a b : Bool) → a ≡ true → (a || b) ≡ true
 or_left true b is = refl

@@ -26,13 +26,11 @@ use Rattle.core_invariant.specs.Histories.{SeenRight}
 use Rattle.core_invariant.specs.PruneRule.{ReadsFrom, LookedRight, PairsRight}
 use Rattle.core_invariant.specs.SeatRule.{SeatRight}
 use Rattle.core_invariant.specs.Rule.{Rule}
-use Rattle.core_invariant.proofs.OneView.{seat_at}
+use Rattle.core_invariant.proofs.OneView.{seat_at, quiet_kept}
 use Rattle.core_invariant.proofs.Joins.{begins-le}
 use Rattle.core_invariant.proofs.Owned.{in_entries, linked-at}
-use Rattle.core_invariant.proofs.TreeNodes.{count_slots}
-use Rattle.core_invariant.proofs.TreeFrames.{linked_live}
+use Rattle.core_invariant.proofs.TreeNow.{count_slots, linked_live}
 use Rattle.core_invariant.proofs.Pairs.{least_low, pairs_same}
-use Rattle.core_invariant.proofs.Quiet.{quiet_kept}
 use Rattle.core_invariant.proofs.ReadMoves.{inside_only}
 
 member_by : (x e : ℕ) (c : Bool) (rest es : List ℕ) → (0 < count x rest → 0 < count x es) → 0 < cond (eqb e x) 1 0 + count x (cond c [] rest)

@@ -22,8 +22,8 @@ use Rattle.core_invariant.specs.Rule.{InRule}
 use Rattle.core_invariant.specs.LinkLaw.{Kept}
 use Rattle.core_invariant.specs.KeptRule.{After, KeepsRuleAt}
 use Rattle.core_invariant.proofs.OneView.{seat_at}
-use Rattle.core_invariant.proofs.StepGives.{store_right, load_right}
-use Rattle.core_invariant.proofs.Cuts.{IsCutAt, cut_at}
+use Rattle.core_invariant.proofs.KeptViews.{store_right, load_right}
+use Rattle.core_invariant.proofs.AtEntries.{IsCutAt, cut_at}
 use Rattle.core_kept.proofs.LooksAtAnn.{look_ann_kept}
 use Rattle.core_kept.proofs.CutSeats.{cut_kept}
 use Rattle.core_kept.proofs.PlainKept.{quiet_work, plain_quiet}

@@ -26,7 +26,7 @@ use Rattle.core_invariant.specs.UnusedSlots.{UnusedRight}
 use Rattle.core_invariant.proofs.OneView.{item_from_get}
 use Rattle.core_events.proofs.Tests.{never, not_true}
 use Rattle.core_invariant.proofs.LinkLaw.{selections_kept}
-use Rattle.core_invariant.proofs.SpentViews.{spent_after}
+use Rattle.core_invariant.proofs.KeptViews.{spent_after}
 use Rattle.core_kept.proofs.SectionWords.{spare_after}
 use Rattle.core_kept.proofs.OwnPlaces.{places_after}
 use Rattle.core_kept.proofs.WaitingSlots.{waits_after}

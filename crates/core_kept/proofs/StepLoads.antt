@@ -18,7 +18,7 @@ use Rattle.core_events.specs.Versions.{tree_nodes}
 use Rattle.core_events.specs.SpelledNow.{tree_now}
 use Rattle.core_invariant.specs.Rule.{InRule}
 use Rattle.core_events.specs.Steps.{views_after}
-use Rattle.core_invariant.proofs.Longest.{longest_is}
+use Rattle.core_invariant.proofs.Passing.{longest_is}
 use Rattle.core_kept.proofs.StampLoads.{load_stamp_kept}
 use Rattle.core_kept.proofs.HeadLoads.{load_head_kept}
 use Rattle.core_kept.proofs.LoadEntries.{load_ts_kept, load_ptr_kept, load_next_kept}
@@ -27,9 +27,9 @@ use Rattle.core_events.proofs.Tests.{never, not_true, node_there, entry_there}
 use Rattle.core_events.proofs.Allowed.{stamp_needs}
 use Rattle.core_invariant.proofs.Needed.{reach_is, standing, going_on}
 use Rattle.core_invariant.specs.KeptRule.{After, KeepsRuleAt}
-use Rattle.core_invariant.proofs.StepGives.{load_right}
+use Rattle.core_invariant.proofs.KeptViews.{load_right}
 use Rattle.core_kept.proofs.PlainKept.{quiet_work, next_work, plain_quiet}
-use Rattle.core_invariant.proofs.HeldSlots.{slots_numbered, slots_found}
+use Rattle.core_invariant.proofs.Locked.{slots_numbered, slots_found}
 
 module _ (z : Layout) (words : List ℕ) (vs : List View) (right : InRule z words vs) (i : ℕ) (v : View) (at : IsItem vs i v) (live : v.joined ≡ false) (n : ℕ)
     (w : Word) (found : word_at z n ≡ Some w) (value : ℕ) where

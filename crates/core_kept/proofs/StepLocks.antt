@@ -21,8 +21,8 @@ use Rattle.core_kept.proofs.Marks.{load_pair_kept}
 use Rattle.core_kept.proofs.PlainKept.{quiet_work, plain_quiet}
 use Rattle.core_events.proofs.Tests.{never, not_true, node_there}
 use Rattle.core_invariant.specs.KeptRule.{After, KeepsRuleAt}
-use Rattle.core_invariant.proofs.StepGives.{store_right, load_right}
-use Rattle.core_invariant.proofs.HeldSlots.{slots_marked, slots_paired}
+use Rattle.core_invariant.proofs.KeptViews.{store_right, load_right}
+use Rattle.core_invariant.proofs.Locked.{slots_marked, slots_paired}
 
 module _ (z : Layout) (words : List ℕ) (vs : List View) (right : InRule z words vs) (i : ℕ) (v : View) (at : IsItem vs i v) (live : v.joined ≡ false) (n : ℕ)
     (w : Word) (found : word_at z n ≡ Some w) (value : ℕ) where

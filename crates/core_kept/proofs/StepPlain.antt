@@ -26,16 +26,15 @@ use Rattle.core_invariant.specs.Meanings.{Meaning}
 use Rattle.core_invariant.specs.Locks.{lock_count}
 use Rattle.core_invariant.specs.Rule.{Rule, InRule}
 use Rattle.core_invariant.specs.KeptRule.{After, KeepsRuleAt}
-use Rattle.core_invariant.proofs.HeldFacts.{locks-count}
+use Rattle.core_invariant.proofs.Locked.{locks-count, slots_link, slots_tag}
 use Rattle.core_invariant.proofs.OneView.{seat_at}
 use Rattle.core_invariant.proofs.WaitNeeds.{can_set}
-use Rattle.core_invariant.proofs.StepGives.{kept_same, store_right, load_right}
+use Rattle.core_invariant.proofs.KeptViews.{kept_same, store_right, load_right}
 use Rattle.core_kept.proofs.PlainKept.{quiet_work, plain_quiet}
 use Rattle.core_kept.proofs.PlainSets.{plain_set, plain_tagged}
 use Rattle.core_kept.proofs.PlainWork.{work_kept}
 use Rattle.core_kept.proofs.LinkStores.{link_load_kept, link_store_kept}
 use Rattle.core_kept.proofs.TagStores.{tag_load_kept, tag_store_kept}
-use Rattle.core_invariant.proofs.HeldSlots.{slots_link, slots_tag}
 
 module _ (z : Layout) (m : Memory) (vs : List View) (g : Meaning) (rule : Rule z m vs g) (i : ℕ) (v : View) (at : IsItem vs i v) where
   -- a seat that has locked a node has locked some

@@ -42,7 +42,7 @@ use Rattle.core_kept.proofs.PlainKept.{quiet_work, entered_work, looked_work, pl
 use Rattle.core_kept.proofs.TwoViews.{split_kept, join_kept}
 use Rattle.core_invariant.specs.PlainRule.{PlainRight}
 use Rattle.core_invariant.specs.KeptRule.{After, KeepsRuleAt}
-use Rattle.core_invariant.proofs.StepGives.{kept_same, store_right, load_right}
+use Rattle.core_invariant.proofs.KeptViews.{kept_same, store_right, load_right}
 
 module _ (z : Layout) (words : List ℕ) (vs : List View) (right : InRule z words vs) (i : ℕ) (v : View) (at : IsItem vs i v) (live : v.joined ≡ false) (n : ℕ)
     (w : Word) (found : word_at z n ≡ Some w) (value : ℕ) where

@@ -24,7 +24,7 @@ use Rattle.core_events.specs.TreeMoves.{tree_after, new_slot, tree_move, is_tree
 use Rattle.core_invariant.specs.Rule.{InRule}
 use Rattle.core_events.specs.Steps.{is_own_update, views_after}
 use Rattle.core_invariant.proofs.OneView.{seat_at}
-use Rattle.core_invariant.proofs.Longest.{longest_is}
+use Rattle.core_invariant.proofs.Passing.{longest_is}
 use Rattle.core_kept.proofs.PrepareSeats.{prepare_kept}
 use Rattle.core_kept.proofs.TreeNeeds.{moves_tree}
 use Rattle.core_kept.proofs.Raise.{raise_kept}
@@ -32,7 +32,7 @@ use Rattle.core_kept.proofs.Finalise.{finalise_kept}
 use Rattle.core_events.proofs.Tests.{never, number_of_is}
 use Rattle.core_invariant.proofs.Needed.{ready_is, can_raise}
 use Rattle.core_invariant.specs.KeptRule.{After, KeepsRuleAt}
-use Rattle.core_invariant.proofs.StepGives.{kept_same, store_right}
+use Rattle.core_invariant.proofs.KeptViews.{kept_same, store_right}
 use Rattle.core_kept.proofs.PlainKept.{quiet_work, plain_quiet}
 
 module _ (z : Layout) (words : List ℕ) (vs : List View) (right : InRule z words vs) (i : ℕ) (v : View) (at : IsItem vs i v) (live : v.joined ≡ false) (n : ℕ)

@@ -37,10 +37,9 @@ use Rattle.core_invariant.proofs.Frames.{every_map, every_named, live_moved, pen
 use Rattle.core_invariant.proofs.OneView.{history_kept, seat_at}
 use Rattle.core_invariant.proofs.Owned.{free_not_live}
 use Rattle.core_invariant.proofs.Filled.{node_other, every_filled, node_apart}
-use Rattle.core_invariant.proofs.Locked.{locked_apart, locked_live}
+use Rattle.core_invariant.proofs.Locked.{locked_apart, locked_live, slots_tag}
 use Rattle.core_invariant.proofs.ReadMoves.{read_kept, place_back, links_back, nexts_back, work_same, holds_same}
 use Rattle.core_kept.proofs.WaitingLocks.{still_waits, tag_keeps}
-use Rattle.core_invariant.proofs.HeldSlots.{slots_tag}
 
 -- what a load has found is known of a locked node
 tag_right : (m : Memory) (k : ℕ) (side : Side) (x : ℕ) (h : HeldNode) (b : Bool) → eqb h.node k ≡ b → m (Node (Tag side) k) ≡ x → IsNodeAt m h

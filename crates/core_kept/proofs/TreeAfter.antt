@@ -34,12 +34,10 @@ use Rattle.core_events.specs.Versions.{IsNullAtBoth}
 use Rattle.core_invariant.specs.Rule.{Rule}
 use Rattle.core_invariant.proofs.Frames.{every_at, one_counted}
 use Rattle.core_invariant.proofs.BundleFrames.{select_frame}
-use Rattle.core_invariant.proofs.LiveHeads.{chain_head}
+use Rattle.core_invariant.proofs.Owned.{chain_head, free_node_alone, not_in_bundle, in_entries}
 use Rattle.core_invariant.proofs.OneView.{seat_at}
-use Rattle.core_invariant.proofs.Owned.{free_node_alone, not_in_bundle, in_entries}
-use Rattle.core_invariant.proofs.TreeNodes.{count_slots}
+use Rattle.core_invariant.proofs.TreeNow.{count_slots, stamp_low, numbered_or_none, number_tells, tail_low, entries_are, root_lives, node_lives}
 use Rattle.core_invariant.proofs.TreeReads.{newest_is, newest_none, newest_some}
-use Rattle.core_invariant.proofs.TreeNow.{stamp_low, numbered_or_none, number_tells, tail_low, entries_are, root_lives, node_lives}
 use Rattle.core_trees.proofs.SpelledTests.{spells_is}
 use Rattle.core_invariant.proofs.TreeSteps.{tested_at, once_listed, in_listed, listed_is, raised_tells, raised_tail}
 

@@ -23,8 +23,7 @@ use Rattle.core_events.specs.PlainNeeds.{is_owed_at, owes}
 use Rattle.core_invariant.specs.Meanings.{Meaning}
 use Rattle.core_invariant.specs.PlainRule.{child_at}
 use Rattle.core_invariant.proofs.Children.{IsChildAt}
-use Rattle.core_invariant.proofs.PlainMoves.{Sets}
-use Rattle.core_invariant.proofs.PlainSteps.{IsWork, IsNulled}
+use Rattle.core_invariant.proofs.PlainSteps.{Sets, IsWork, IsNulled}
 use Rattle.core_invariant.specs.Locks.{lock_count}
 use Rattle.core_invariant.specs.MeaningMoves.{raised_meaning}
 use Rattle.core_events.specs.TreeMoves.{new_entries}

@@ -35,11 +35,10 @@ use Rattle.core_events.specs.SpelledNow.{tree_now}
 use Rattle.core_events.specs.TreeMoves.{tree_after, is_key, has_key, new_slot, move_at, tree_move, is_new, is_plain_at, is_plain_new, sets_locked, spells_after, is_step, is_tree_step, is_plain_step, finds_gap}
 use Rattle.core_events.specs.Versions.{top_slot, IsNullAtBoth}
 use Rattle.core_invariant.specs.Rule.{Rule}
-use Rattle.core_invariant.proofs.HeldFacts.{locks-count}
+use Rattle.core_invariant.proofs.Locked.{locks-count}
 use Rattle.core_invariant.proofs.Children.{top_link, leads_link, subtree_child}
 use Rattle.core_invariant.proofs.Passing.{all_passing, both_hold}
-use Rattle.core_invariant.proofs.PlainMoves.{after_child}
-use Rattle.core_invariant.proofs.PlainSteps.{IsWork, set_work, set_was, owed_every, owed_once, owed_null, null_owed}
+use Rattle.core_invariant.proofs.PlainSteps.{after_child, IsWork, set_work, set_was, owed_every, owed_once, owed_null, null_owed}
 use Rattle.core_kept.proofs.TreeMoved.{MovesPlain, MovesTree, meaning_after}
 use Rattle.core_invariant.proofs.TreeNow.{link_live, names_once, node_lives, tree_is}
 use Rattle.core_invariant.proofs.TreeSteps.{slots_after, contents_after, key_low, lawful_after, gaps_after, count_sum, listed_is, tested_at}

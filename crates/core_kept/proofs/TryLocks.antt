@@ -38,7 +38,7 @@ use Rattle.core_invariant.specs.Reached.{has_let}
 use Rattle.core_invariant.proofs.Owned.{in_entries, not_in_bundle}
 use Rattle.core_invariant.proofs.Filled.{node_other, every_filled, lock_apart}
 use Rattle.core_kept.proofs.Holding.{holding_more, waits_with}
-use Rattle.core_invariant.proofs.LockReach.{CanLock}
+use Rattle.core_invariant.proofs.Locked.{CanLock}
 use Rattle.core_invariant.proofs.ReadMoves.{inside_only, read_kept}
 
 pub slots_push : (k : ℕ) (hs : List HeldNode) → held_slots (hs ++ just_locked k ∷ []) ≡ held_slots hs ++ k ∷ []

@@ -39,7 +39,7 @@ use Rattle.core_invariant.specs.StillRule.{StillRight, IsSourceKnown, IsLinkKnow
 use Rattle.core_invariant.specs.TurnRule.{TurnsRight, LeavesMarked}
 use Rattle.core_invariant.proofs.Frames.{every_map}
 use Rattle.core_invariant.proofs.Sides.{same_side-refl}
-use Rattle.core_invariant.proofs.HeldFacts.{locks-count}
+use Rattle.core_invariant.proofs.Locked.{locks-count}
 use Rattle.core_invariant.proofs.Idle.{nameless_idle, number_low, number_apart}
 use Rattle.core_invariant.proofs.OneView.{seat_at}
 use Rattle.core_kept.specs.TurnLaws.{TurnsAfter, KeepsTurnsAt}

@@ -37,7 +37,7 @@ use Rattle.core_invariant.specs.Reached.{plain_graph}
 use Rattle.core_invariant.specs.Rule.{InRule}
 use Rattle.core_invariant.specs.SearchRule.{SearchRight}
 use Rattle.core_invariant.specs.TurnRule.{PlaceBelow, TurnRight, TurnsRight, LeavesMarked}
-use Rattle.core_invariant.proofs.Locked.{same_locker}
+use Rattle.core_invariant.proofs.Locked.{same_locker, count-locks}
 use Rattle.core_invariant.proofs.OneView.{seat_at}
 use Rattle.core_invariant.proofs.TreeSteps.{tested_at}
 use Rattle.core_invariant.proofs.WaitNeeds.{CanSet, can_set}
@@ -63,7 +63,6 @@ use Rattle.index_words.specs.declared.view.reading.LinkSource.{LinkSource}
 use Rattle.index_words.specs.declared.view.reading.LinkSource.TheVariants.{Bundle, Plain}
 use Rattle.index_words.specs.declared.view.update.HeldNode.{HeldNode}
 use Rattle.core_invariant.proofs.Frames.{every_map}
-use Rattle.core_invariant.proofs.HeldFacts.{count-locks}
 use Rattle.core_invariant.proofs.Sides.{same_side-refl}
 
 module _ (z : Layout) (words : List ℕ) (vs : List View) (right : InRule z words vs) (i k : ℕ) (side : Side) (x : ℕ) (v : View) (at : IsItem vs i v)

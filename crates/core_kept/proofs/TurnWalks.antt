@@ -37,7 +37,7 @@ use Rattle.core_kept.proofs.TurnFrames.{same_place, same_kept, step_kept, one_mo
 use Rattle.core_kept.proofs.WalkSteps.{walk_reach}
 use Rattle.plain_trees.specs.Reaching.{LeadTo, IsReached}
 use Rattle.plain_trees.specs.Turns.{LeadsBelow}
-use Rattle.plain_trees.proofs.Reaching.{reached_in}
+use Rattle.plain_trees.proofs.Matched.{reached_in}
 use Rattle.plain_trees.proofs.TurnPaths.{turns_here, turn_stays}
 
 -- nodes of a search on plain links that spell this tree

@@ -17,9 +17,8 @@ use Rattle.core_invariant.specs.Meanings.{Meaning}
 use Rattle.core_invariant.specs.Readers.{PlaceRight}
 use Rattle.core_invariant.specs.SeatRule.{SeatRight}
 use Rattle.core_invariant.specs.Rule.{Rule}
-use Rattle.core_invariant.proofs.OneView.{seat_at}
+use Rattle.core_invariant.proofs.OneView.{seat_at, quiet_kept}
 use Rattle.core_invariant.proofs.Pairs.{pairs_same}
-use Rattle.core_invariant.proofs.Quiet.{quiet_kept}
 use Rattle.core_invariant.proofs.ReadMoves.{inside_only}
 
 -- a view with other turns

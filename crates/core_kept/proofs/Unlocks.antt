@@ -31,7 +31,7 @@ use Rattle.core_events.specs.UpdateMoves.{without}
 use Rattle.core_events.specs.LockMoves.{other_nodes, update_until, unlocked_view}
 use Rattle.core_invariant.specs.Rule.{Rule}
 use Rattle.core_invariant.proofs.Frames.{live_moved, bundle_weaker}
-use Rattle.core_invariant.proofs.Without.{count-without_same, count-without_other, count-without-le}
+use Rattle.core_invariant.proofs.Passing.{count-without_same, count-without_other, count-without-le}
 use Rattle.core_invariant.proofs.OneView.{history_kept, seat_at}
 use Rattle.core_invariant.proofs.Filled.{node_other, every_filled, lock_apart}
 use Rattle.core_invariant.proofs.Locked.{locked_apart}

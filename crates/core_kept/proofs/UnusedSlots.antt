@@ -38,7 +38,7 @@ use Rattle.core_invariant.specs.UnusedSlots.{IsFreeWord, IsUnusedWord, UnusedRig
 use Rattle.core_invariant.proofs.Filled.{node_other, entry_other}
 use Rattle.core_invariant.proofs.OneView.{set_same}
 use Rattle.core_invariant.proofs.Owned.{once_node, once_entry}
-use Rattle.core_invariant.proofs.Without.{count-without_same, count-without-le}
+use Rattle.core_invariant.proofs.Passing.{count-without_same, count-without-le}
 use Rattle.core_kept.proofs.TwoViews.{count-take-drop}
 use Rattle.core_kept.proofs.FreeWords.{LessOf, apart_kept, both_less, none_less, fewer_less, less_right, taken_less, settled_less, Apart, written_apart, Leaves, leaves}
 use Rattle.core_invariant.proofs.Footprints.{Parts, Spares, quiet_part}

@@ -49,8 +49,8 @@ use Rattle.core_invariant.proofs.Needed.{outside_idle, can_raise}
 use Rattle.core_invariant.proofs.OneView.{item_from_get, seat_at}
 use Rattle.core_invariant.proofs.Owned.{once_node}
 use Rattle.core_invariant.proofs.TreeNow.{tree_is}
-use Rattle.core_invariant.proofs.Without.{count-without-le}
-use Rattle.core_invariant.proofs.LockReach.{can_lock}
+use Rattle.core_invariant.proofs.Passing.{count-without-le}
+use Rattle.core_invariant.proofs.Locked.{can_lock}
 use Rattle.core_kept.proofs.RaiseNew.{waiting_old}
 use Rattle.core_kept.proofs.TreeNeeds.{moves_tree}
 use Rattle.core_kept.proofs.TryLocks.{slots_push}

@@ -27,7 +27,7 @@ use Rattle.plain_trees.specs.Points.{point_of, IsAbove, IsUnder, IsInTurns}
 use Rattle.plain_trees.specs.Reaching.{IsReached}
 use Rattle.plain_trees.specs.Walks.{low_turn, high_turn}
 use Rattle.plain_trees.proofs.Matched.{spelled-some}
-use Rattle.plain_trees.proofs.Walks.{begin_law, walk_law}
+use Rattle.plain_trees.proofs.NullLinks.{begin_law, walk_law}
 
 above_is : (low : Option ℕ) (key : ℕ) → is_above_turn low key ≡ true → IsAbove low (point_of key)
 above_is None key is = tt

@@ -31,7 +31,7 @@ use Rattle.core_invariant.specs.Locks.{lock_count}
 use Rattle.core_invariant.specs.Readers.{PlaceRight}
 use Rattle.core_invariant.specs.Rule.{IsRight}
 use Rattle.core_invariant.proofs.Frames.{count-middle}
-use Rattle.core_invariant.proofs.HeldFacts.{count-locks}
+use Rattle.core_invariant.proofs.Locked.{count-locks}
 use Rattle.core_invariant.proofs.Idle.{nameless_idle}
 use Rattle.core_invariant.proofs.OneView.{item_from_get, seat_at}
 use Rattle.core_invariant.proofs.Owned.{reachable_live}

@@ -24,7 +24,7 @@ use Rattle.core_events.specs.Searches.{search_nodes, is_plain, has_other_child, 
 use Rattle.core_laws.specs.ViewNeeds.{IsInReach, IsSearched}
 use Rattle.core_laws.proofs.ViewTests.{reaches}
 use Rattle.core_invariant.specs.Readers.{IsWatched}
-use Rattle.core_invariant.proofs.HeldFacts.{locks-count, count-locks}
+use Rattle.core_invariant.proofs.Locked.{locks-count, count-locks}
 use Rattle.core_events.proofs.Tests.{never, not_equal, either_true}
 use Rattle.core_invariant.proofs.Needed.{tree-count, standing}
 

@@ -27,7 +27,7 @@ use Rattle.core_invariant.specs.Rule.{IsRight}
 use Rattle.core_events.specs.Steps.{needs, carries, allowed_at, after_at, view_after, views_after, join_found, tried_from}
 use Rattle.core_invariant.proofs.OneView.{item_from_get}
 use Rattle.core_laws.proofs.HeldLocks.{counted_busy}
-use Rattle.core_invariant.proofs.HeldFacts.{count-locks}
+use Rattle.core_invariant.proofs.Locked.{count-locks}
 use Rattle.core_events.proofs.Tests.{never, not_true, not_equal}
 use Rattle.core_laws.proofs.Owners.{found_at}
 use Rattle.core_laws.proofs.Tallies.{Tally, same_tally, quiet_tally, raised_tally}

@@ -35,7 +35,7 @@ use Rattle.core_invariant.specs.SeatRule.{SeatRight}
 use Rattle.core_invariant.specs.WaitingSlots.{IsNameless, WaitsRight}
 use Rattle.core_invariant.proofs.Frames.{Term, term_of, every_at, same_item}
 use Rattle.core_invariant.proofs.Idle.{nameless_idle, own_count, cond-le, number_low}
-use Rattle.core_invariant.proofs.LockReach.{searched}
+use Rattle.core_invariant.proofs.Locked.{searched}
 use Rattle.core_invariant.proofs.OneView.{seat_at}
 use Rattle.core_invariant.proofs.Owned.{slot_is, reachable_live, held_live}
 use Rattle.core_laws.specs.Alone.{AnotherPass, IsStoredBy}

@@ -39,20 +39,18 @@ use Rattle.core_events.specs.Tables.{Table, held_by}
 use Rattle.core_events.specs.UpdateMoves.{without}
 use Rattle.core_events.specs.Versions.{top_slot, tree_nodes, slots_of, ReadsVersion}
 use Rattle.core_laws.specs.ViewNeeds.{IsInReach}
-use Rattle.core_invariant.proofs.LiveHeads.{chain_head}
+use Rattle.core_invariant.proofs.Owned.{chain_head, entry_there, in_entries, reachable_live}
 use Rattle.core_invariant.proofs.Frames.{one_counted}
-use Rattle.core_invariant.proofs.Longest.{longest_is}
+use Rattle.core_invariant.proofs.Passing.{longest_is, count-without_same, count-without-le}
 use Rattle.core_invariant.proofs.LinkLaw.{selection_is}
 use Rattle.core_invariant.proofs.AtEntries.{chain_behind, selected_by, child_is, above_is, last_by}
 use Rattle.core_invariant.proofs.Needed.{reach_is}
 use Rattle.core_laws.proofs.OneTree.{placed_at}
 use Rattle.core_invariant.proofs.OneView.{seat_at}
-use Rattle.core_invariant.proofs.Owned.{entry_there, in_entries, reachable_live}
 use Rattle.core_laws.proofs.Remembered.{every_item, none_stays}
 use Rattle.core_laws.proofs.TreeGaps.{every_joined}
 use Rattle.core_invariant.proofs.TreeNow.{tree_is}
 use Rattle.core_laws.proofs.ViewTests.{reaches}
-use Rattle.core_invariant.proofs.Without.{count-without_same, count-without-le}
 
 -- a node of a spelled tree is read as it stands there
 record ReadAs (g : Graph) (n : TreeNode) : Type 0 where
@@ -122,7 +120,7 @@ falls_once number top d (e ∷ es) falls =
     other_one : (e d n : ℕ) → (e ≡ d → ⊥) → n ≤ 1 → cond (eqb e d) 1 0 + n ≤ 1
     other_one e d n apart few = grind (arith, nat_tests)
 
-length-without : (e : ℕ) (xs : List ℕ) → length (without e xs) + count e xs ≡ length xs
+pub length-without : (e : ℕ) (xs : List ℕ) → length (without e xs) + count e xs ≡ length xs
 length-without e [] = refl
 length-without e (x ∷ xs) = step (eqb x e) (length-without e xs)
   where

@@ -18,7 +18,7 @@ use Rattle.core_laws.specs.Searching.{NoReturnLaw}
 use Rattle.core_laws.proofs.Searching.{held_word, plain_in, search}
 use Rattle.core_laws.proofs.SearchTurns.{turn_right}
 use Rattle.plain_trees.specs.Turns.{HasKey, IsBelow}
-use Rattle.plain_trees.proofs.Nodes.{top-or-below}
+use Rattle.plain_trees.proofs.Matched.{top-or-below}
 
 -- each node stands once in the tree
 abbrev pub IsOnce : NamedTree → Type 0

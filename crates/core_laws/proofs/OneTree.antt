@@ -9,7 +9,7 @@ use Rattle.core_grace.specs.Holds.{tree_slots}
 use Rattle.core_trees.specs.NamedTree.{NamedTree, Null, Branch}
 use Rattle.core_laws.specs.Found.{OneTreeLaw}
 use Rattle.core_events.specs.Versions.{top_slot, tree_nodes, slots_of}
-use Rattle.core_invariant.proofs.TreeNodes.{tree_slots-append}
+use Rattle.core_invariant.proofs.TreeNow.{tree_slots-append}
 
 -- 1 where the two numbers are the same
 abbrev same_at : ℕ → ℕ → ℕ

@@ -36,8 +36,8 @@ use Rattle.core_events.specs.PlainNeeds.{is_done_at, owes, may_set_field, may_se
 use Rattle.core_events.specs.LockNeeds.{is_mark, names_pass, may_lock, may_try_lock, may_unlock, may_mark}
 use Rattle.core_events.specs.Needs.{is_lock, nothing_pending, may_fill}
 use Rattle.core_events.specs.CutNeeds.{may_cut}
-use Rattle.core_invariant.proofs.Apart.{in_one_bundle}
-use Rattle.core_invariant.proofs.Cuts.{IsCutAt, cut_at}
+use Rattle.core_invariant.proofs.Owned.{in_one_bundle, once_node, once_entry, held_live, not_in_bundle, in_entries, free_not_live, head_apart}
+use Rattle.core_invariant.proofs.AtEntries.{IsCutAt, cut_at}
 use Rattle.core_events.specs.UpdateNeeds.{may_prepare_head, may_prepare, may_finalise}
 use Rattle.core_laws.specs.Owners.{HasFreeNode, HasFreeEntry, IsInLockedBundle, IsSteadyFor, IsSteadyField, IsSteadyPart, IsFixed, KeepsOwners, OwnersLaw}
 use Rattle.core_events.specs.Steps.{needs, carries, allowed_at, after_at, words_after}
@@ -49,11 +49,7 @@ use Rattle.core_invariant.proofs.WaitNeeds.{can_set}
 use Rattle.core_invariant.proofs.WordPrints.{stores, word_keeps}
 use Rattle.std.proofs.lemmas.Bool.Decides.{eqb_tells}
 use Rattle.core_invariant.proofs.Idle.{number_apart}
-use Rattle.core_invariant.proofs.Owned.{once_node, once_entry, held_live, not_in_bundle, in_entries, free_not_live}
-use Rattle.core_invariant.proofs.HeldFacts.{work_holds, locks-count}
-use Rattle.core_invariant.proofs.LiveHeads.{head_apart}
-use Rattle.core_invariant.proofs.LockReach.{can_lock}
-use Rattle.core_invariant.proofs.Locked.{locked_apart, locked_live}
+use Rattle.core_invariant.proofs.Locked.{work_holds, locks-count, can_lock, locked_apart, locked_live}
 
 own_number_is : (n : ℕ) (o : Option ℕ) → o ≡ Some n → is_number n o ≡ false → ⊥
 own_number_is n None is other = cc

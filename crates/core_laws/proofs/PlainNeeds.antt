@@ -27,7 +27,7 @@ use Rattle.core_events.specs.UpdateNeeds.{side_of}
 use Rattle.core_invariant.specs.Locks.{IsNodeAt}
 use Rattle.core_invariant.specs.Readers.{IsLocked}
 use Rattle.core_invariant.specs.Rule.{InRule}
-use Rattle.core_invariant.proofs.HeldFacts.{locks-count, count-locks}
+use Rattle.core_invariant.proofs.Locked.{locks-count, count-locks}
 use Rattle.core_invariant.proofs.Needed.{found_held}
 use Rattle.core_invariant.proofs.OneView.{item_from_get, seat_at}
 use Rattle.core_laws.specs.PlainNeeds.{MayReadLink, MayReadTag, MayUnlink, MaySetLink, MaySetTag, ReadLinkLaw, ReadTagLaw, SetLinkLaw, SetTagLaw}

@@ -36,11 +36,9 @@ use Rattle.core_laws.specs.Remembered.{Remembers, IsHeadStill, Validates, HasTre
 use Rattle.core_invariant.proofs.Frames.{Term, term_of, same_item, every_at}
 use Rattle.core_invariant.proofs.OneView.{seat_at}
 use Rattle.core_invariant.proofs.Owned.{reachable_live, slot_is}
-use Rattle.core_invariant.proofs.TreeNodes.{count_slots}
-use Rattle.core_invariant.proofs.TreeFrames.{ReadsIn}
+use Rattle.core_invariant.proofs.TreeNow.{count_slots, ReadsIn, tree_is, child_is}
 use Rattle.core_laws.proofs.TreeGaps.{link_reads, gap_same, occurs_there, root_gap, node_gap}
 use Rattle.core_invariant.proofs.LinkLaw.{selection_is}
-use Rattle.core_invariant.proofs.TreeNow.{tree_is, child_is}
 
 -- what holds of each holds of the one at a place
 pub every_item : {X : Type 0} (P : X → Type 0) (xs : List X) (n : ℕ) (x : X) → IsItem xs n x → Every P xs → P x

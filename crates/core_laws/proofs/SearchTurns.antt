@@ -35,21 +35,20 @@ use Rattle.core_invariant.specs.SearchRule.{PlaceKey}
 use Rattle.core_invariant.specs.StillRule.{IsSourceStill, IsLinkStill, StaysStill, StillRight}
 use Rattle.core_invariant.specs.TurnRule.{PlaceBelow, TurnRight, TurnsRight, LeavesMarked}
 use Rattle.core_invariant.proofs.Frames.{Term, term_of, every_map}
-use Rattle.core_invariant.proofs.LockReach.{searched}
+use Rattle.core_invariant.proofs.Locked.{searched}
 use Rattle.core_invariant.proofs.OneView.{seat_at}
 use Rattle.core_invariant.proofs.Owned.{slot_is}
 use Rattle.core_invariant.proofs.SearchNodes.{search_count}
-use Rattle.core_invariant.proofs.TreeNodes.{count_slots}
-use Rattle.core_invariant.proofs.Undone.{out_taken}
+use Rattle.core_invariant.proofs.TreeNow.{count_slots}
+use Rattle.core_invariant.proofs.Undone.{out_taken, stays}
 use Rattle.core_laws.specs.PlainNeeds.{IsHeldUnmarked}
 use Rattle.core_laws.specs.Searching.{IsBeforeRaise, last_turn, BeyondLaw, HasKeys, SearchKeysLaw, IsFoundStill, IsStill, StillLaw}
 use Rattle.core_laws.proofs.OnePass.{inside_number, taker_number, one_view}
 use Rattle.core_laws.proofs.Searching.{search, reach, plain_in, now_in}
 use Rattle.plain_trees.specs.Matching.{IsOut}
 use Rattle.plain_trees.specs.Turns.{IsBeyond}
-use Rattle.plain_trees.proofs.Nodes.{in-now}
-use Rattle.plain_trees.proofs.Turns.{turn_law}
-use Rattle.core_invariant.proofs.Undone.{stays}
+use Rattle.plain_trees.proofs.Matched.{in-now}
+use Rattle.plain_trees.proofs.TurnPaths.{turn_law}
 
 one_here : (k node : ℕ) → node ≡ k → 0 < count k (node ∷ [])
 one_here k node same = omega (arith, ap (λ (b : Bool). 0 + cond b 1 0) (eq-eqb node k same))

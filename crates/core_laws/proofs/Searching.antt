@@ -44,19 +44,15 @@ use Rattle.core_invariant.specs.SearchRule.{waits, ClaimsAt, PlaceKey, SourceCla
 use Rattle.core_invariant.specs.SeatRule.{SeatRight}
 use Rattle.core_invariant.specs.TurnRule.{LeavesMarked}
 use Rattle.core_invariant.proofs.Frames.{Term, term_of, every_at}
-use Rattle.core_invariant.proofs.HeldFacts.{locks-count}
-use Rattle.core_invariant.proofs.Locked.{still_linked, locked_linked, locked_live, same_locker}
-use Rattle.core_invariant.proofs.LockReach.{searched}
+use Rattle.core_invariant.proofs.Locked.{locks-count, still_linked, locked_linked, locked_live, same_locker, searched}
 use Rattle.core_invariant.proofs.Needed.{found_held}
 use Rattle.core_invariant.proofs.OneView.{seat_at}
 use Rattle.core_invariant.proofs.Owned.{slot_high}
 use Rattle.core_invariant.proofs.Passing.{Passing, passing}
 use Rattle.core_invariant.proofs.SearchNodes.{search_count}
 use Rattle.core_invariant.proofs.Sides.{same_side-true}
-use Rattle.core_invariant.proofs.TreeNodes.{count_slots}
-use Rattle.core_invariant.proofs.TreeNow.{child_is, tree_is}
-use Rattle.core_invariant.proofs.Undone.{orderly, out_taken, stays}
-use Rattle.core_invariant.proofs.UnsetLinks.{waiting_out, no_links, no_items}
+use Rattle.core_invariant.proofs.TreeNow.{count_slots, child_is, tree_is}
+use Rattle.core_invariant.proofs.Undone.{orderly, out_taken, stays, waiting_out, no_links, no_items}
 use Rattle.core_laws.specs.PlainNeeds.{IsHeldUnmarked, HasFirmLink, MayReadLink}
 use Rattle.core_laws.specs.Searching.{LinkFoundLaw, IsBeforeRaise, OwnLeftLaw, HeadNumberedLaw, HeldLinkLaw, IsOver, IsUnder, NullLinkLaw}
 use Rattle.core_laws.proofs.AloneFacts.{chain_begins}
@@ -65,9 +61,8 @@ use Rattle.core_laws.proofs.ViewTests.{found-locks}
 use Rattle.plain_trees.specs.Points.{point_of, IsAbove}
 use Rattle.plain_trees.specs.Points.{IsUnder as IsUnderPoint}
 use Rattle.plain_trees.specs.Reaching.{IsReached}
-use Rattle.plain_trees.proofs.Nodes.{in-now}
+use Rattle.plain_trees.proofs.Matched.{in-now, led-in}
 use Rattle.plain_trees.proofs.NullLinks.{null_link as plain_null_link}
-use Rattle.plain_trees.proofs.OneLink.{led-in}
 
 root_or : (k : ℕ) (tree : NamedTree) → count k (0 ∷ slots_of tree) ≡ 1 → (k ≡ 0) ⊎ (0 < occurs k tree)
 root_or k tree one = by (eqb 0 k) refl one

@@ -18,8 +18,7 @@ use Rattle.core_events.specs.UpdateMoves.{without}
 use Rattle.core_events.specs.Versions.{slots_of}
 use Rattle.core_invariant.specs.BundleRule.{IsLive}
 use Rattle.core_invariant.specs.Rule.{IsRight}
-use Rattle.core_invariant.proofs.TreeNow.{tree_is, entries_are, root_lives, node_lives}
-use Rattle.core_invariant.proofs.TreeNodes.{count_slots}
+use Rattle.core_invariant.proofs.TreeNow.{tree_is, entries_are, root_lives, node_lives, count_slots}
 use Rattle.core_laws.specs.SlotSums.{owned_count, linked_entries, SlotsAddUp}
 use Rattle.core_laws.specs.TreeLaw.{bundles_now}
 

@@ -12,13 +12,13 @@ use Rattle.core_trees.specs.SpelledTree.{Graph, IsSpelled}
 use Rattle.core_trees.proofs.Slots.{one_at-same}
 use Rattle.core_trees.proofs.SpelledGaps.{null_link_law}
 use Rattle.core_events.specs.Versions.{tree_nodes}
-use Rattle.core_invariant.proofs.TreeNodes.{count_slots}
+use Rattle.core_invariant.proofs.TreeNow.{count_slots}
 
-every_front : {X : Type 0} (P : X → Type 0) (xs ys : List X) → Every P (xs ++ ys) → Every P xs
+pub every_front : {X : Type 0} (P : X → Type 0) (xs ys : List X) → Every P (xs ++ ys) → Every P xs
 every_front P [] ys all = tt
 every_front P (x ∷ xs) ys all = (all.0, every_front P xs ys all.1)
 
-every_back : {X : Type 0} (P : X → Type 0) (xs ys : List X) → Every P (xs ++ ys) → Every P ys
+pub every_back : {X : Type 0} (P : X → Type 0) (xs ys : List X) → Every P (xs ++ ys) → Every P ys
 every_back P [] ys all = all
 every_back P (x ∷ xs) ys all = every_back P xs ys all.1
 

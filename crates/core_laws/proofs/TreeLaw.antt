@@ -18,9 +18,7 @@ use Rattle.core_events.specs.Tables.{Table, held_by}
 use Rattle.core_laws.specs.TreeLaw.{bundles_now, SpellsAt, ReadsMap, SeesMap, SpellsMap}
 use Rattle.core_invariant.proofs.OneView.{seat_at}
 use Rattle.core_invariant.proofs.LinkLaw.{selection_is}
-use Rattle.core_invariant.proofs.TreeNodes.{count_slots}
-use Rattle.core_invariant.proofs.TreeFrames.{SameNode, version_frame, read_live}
-use Rattle.core_invariant.proofs.TreeNow.{tree_is, entries_are, root_lives, node_lives}
+use Rattle.core_invariant.proofs.TreeNow.{count_slots, SameNode, version_frame, read_live, tree_is, entries_are, root_lives, node_lives}
 
 module _ (t : Table) (right : IsRight t) where
   abbrev z : Layout

@@ -33,11 +33,10 @@ use Rattle.core_invariant.specs.PruneRule.{ReadsFrom}
 use Rattle.core_invariant.specs.Rule.{Rule, IsRight}
 use Rattle.core_invariant.proofs.BundleFrames.{select_in}
 use Rattle.core_invariant.proofs.OneView.{item_from_get}
-use Rattle.core_invariant.proofs.Owned.{in_entries, one_side, linked-at, once_entry}
-use Rattle.core_invariant.proofs.Apart.{in_one_bundle}
+use Rattle.core_invariant.proofs.Owned.{in_entries, one_side, linked-at, once_entry, in_one_bundle}
 use Rattle.core_invariant.proofs.Sides.{by_link}
 use Rattle.core_invariant.proofs.LinkLaw.{selection_is}
-use Rattle.core_invariant.proofs.Cuts.{IsCutAt, cut_at}
+use Rattle.core_invariant.proofs.AtEntries.{IsCutAt, cut_at}
 use Rattle.core_laws.specs.Cuts.{IsReadNowOrLater, SelectsNone, UnreadLaw}
 
 module _ (z : Layout) (m : Memory) (vs : List View) (g : Meaning) (rule : Rule z m vs g) (v : View) (e : ℕ) (cut : IsCutAt z m vs g v e) (n : ℕ) (low : g.bundles.number e ≤ n) where

@@ -45,9 +45,8 @@ use Rattle.core_laws.proofs.Remembered.{every_item}
 use Rattle.core_laws.specs.ViewNeeds.{event_at, IsInside, IsAtEntry, MayEnter, MayLeave, MayLook, MayFill, MayReadHead, MayReadNumber, MayReadChild, MayReadNext, HasFilled, MayPrepare, MayFinalise, MayLock, MayUnlock, MayReadMark, MayReadPair, MayMark, MaySplit, MayJoin, EnterLaw, LeaveLaw, LookLaw, FillLaw, LoadStampLaw, FixLaw, ReadHeadLaw, ReadNumberLaw, ReadChildLaw, ReadNextLaw, PrepareLaw, FinaliseLaw, LockLaw, UnlockLaw, ReadMarkLaw, MarkLaw, ReadKeyLaw, ReadValLaw, SplitLaw, JoinLaw}
 use Rattle.core_invariant.proofs.OneView.{item_from_get, seat_at}
 use Rattle.core_invariant.proofs.Frames.{every_at}
-use Rattle.core_invariant.proofs.HeldFacts.{work_holds, locks-count, count-locks}
-use Rattle.core_invariant.proofs.LiveHeads.{chain_head}
-use Rattle.core_invariant.proofs.Owned.{entry_there, free_entry_some, held_live, in_entries, slot_high}
+use Rattle.core_invariant.proofs.Locked.{work_holds, locks-count, count-locks}
+use Rattle.core_invariant.proofs.Owned.{chain_head, entry_there, free_entry_some, held_live, in_entries, slot_high}
 use Rattle.core_laws.proofs.ViewTests.{reaches, lock_tested, both, left_of, right_of, not_of, never_of, at_most, below, found-locks, none_is, none_waiting, number_is, other_number, own_section_is, empty_length, some_length, outside_is}
 use Rattle.core_laws.proofs.AtWork.{alive, inside_alive, named_alive, locked_alive, allowed_by, reach_there, searched_there, section_there, own_there, nothing_by, done_by}
 

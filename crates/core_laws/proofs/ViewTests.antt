@@ -32,7 +32,7 @@ use Rattle.index_words.specs.declared.view.reading.Place.{Place}
 use Rattle.index_words.specs.declared.view.reading.Place.TheVariants.{Nowhere, Node as AtNode}
 use Rattle.index_words.specs.declared.view.reading.Reading.{Reading}
 use Rattle.key_map.proofs.Counting.{count-has}
-use Rattle.core_invariant.proofs.HeldFacts.{count-locks}
+use Rattle.core_invariant.proofs.Locked.{count-locks}
 use Rattle.core_events.proofs.Tests.{never}
 
 pub both : (a b : Bool) → a ≡ true → b ≡ true → (a && b) ≡ true

@@ -1,5 +1,5 @@
 -- What a view shows of an update holds of the words, in every table that meets the rule.
-use Rattle.std.proofs.Common.{◌≡◌, ℕ, zero, suc, ◌+◌, ◌<◌, ◌⊎◌, inl, inr, cond, List, [], ◌∷◌, length, Bool, true, false, not, eqb, ◌&&◌, refl, ap, sym, ◌∙◌, subst, arith, Option, Some, None, is_none}
+use Rattle.std.proofs.Common.{◌≡◌, ℕ, zero, suc, ◌+◌, ◌<◌, ◌⊎◌, inl, inr, cond, List, [], ◌∷◌, length, true, false, not, eqb, ◌&&◌, refl, ap, sym, ◌∙◌, subst, arith, Option, Some, None, is_none}
 use Rattle.std.specs.Prelude.{IfSome}
 use Rattle.std.specs.List.{list_any}
 use Rattle.std.proofs.lemmas.Bool.{and_from, eq-eqb, ne_eqb}
@@ -29,13 +29,12 @@ use Rattle.core_events.specs.TreeMoves.{has_gap, is_tree_step}
 use Rattle.core_events.specs.Tables.{Table}
 use Rattle.core_events.specs.UpdateNeeds.{held_at, side_of, may_raise_number}
 use Rattle.core_events.specs.Steps.{allowed_at}
-use Rattle.core_invariant.proofs.OneView.{item_from_get}
+use Rattle.core_invariant.proofs.OneView.{item_from_get, seat_at}
 use Rattle.core_events.specs.LoadMoves.{locks}
-use Rattle.core_invariant.proofs.OneView.{seat_at}
 use Rattle.core_invariant.proofs.Needed.{found_held}
 use Rattle.core_laws.proofs.CountTests.{item_any}
 use Rattle.core_laws.proofs.Remembered.{every_item}
-use Rattle.core_laws.proofs.ViewTests.{found-locks}
+use Rattle.core_laws.proofs.ViewTests.{found-locks, not_of, none_is, number_is}
 use Rattle.core_laws.specs.Searching.{HeldLinkLaw, NullLinkLaw, IsOver, IsUnder}
 use Rattle.core_events.specs.Searches.{is_above_turn, is_under_turn, is_between, is_gap_found, is_gap_link}
 use Rattle.index_words.specs.declared.view.reading.LinkSource.{LinkSource}
@@ -301,17 +300,6 @@ module _ (held_link : HeldLinkLaw) (null_link : NullLinkLaw) (z : Layout) (words
           | inr deep ↦ inr (record { apart = deep.apart; second = deep.second; pending = deep.pending; prepared = prepared n.parent n.side deep.second n.right deep.prepared; child = deep.child })
         ];
       }
-
-not_of : (b : Bool) → b ≡ false → not b ≡ true
-not_of true p = cc
-not_of false p = refl
-
-number_is : (n : ℕ) (o : Option ℕ) → o ≡ Some n → is_number n o ≡ true
-number_is n o is = ap (is_number n) is ∙ eq-eqb n n refl
-
-none_is : {X : Type 0} (o : Option X) → o ≡ None → is_none o ≡ true
-none_is None is = refl
-none_is (Some x) is = cc
 
 longer : (xs ys : List ℕ) (x : ℕ) → xs ≡ x ∷ ys → eqb (length xs) 0 ≡ false
 longer xs ys x is = ap (λ l. eqb (length l) 0) is ∙ ne_eqb (length (x ∷ ys)) 0 (λ zero'. omega (arith, zero'))

@@ -1,10 +1,8 @@
-pub mod NewChildren
+pub mod RaiseParts
 pub mod RaiseTests
 pub mod LinksLeft
-pub mod RaiseParts
 pub mod MayRaise
 pub mod HeldReady
 pub mod PlansRaise
 pub mod PlanLocks
-pub mod HeldOnce
 pub mod PlanSteps

@@ -36,8 +36,8 @@ use Rattle.core_trees.proofs.Links.JoinDeep.{IsEither, join_deep}
 use Rattle.core_trees.proofs.Links.Moves.{grow_takes, replace_takes, lift_moves, join_moves}
 use Rattle.core_updates.proofs.LinksLeft.{IsLeft, left_put, left_removal, lift_far, near_far, deep_far}
 use Rattle.core_updates.proofs.RaiseTests.{found_there}
-use Rattle.core_updates.proofs.NewChildren.{keeps_links}
-use Rattle.core_updates.proofs.RaiseParts.{tree_at, in_tree, leads_to, entries_free, node_of, tests_new, tests_plain, prepared_child, changed_by, one_changed, pending_listed, step_of, two_changed}
+use Rattle.core_updates.proofs.RaiseParts.{keeps_links, tree_at, in_tree, leads_to, entries_free, node_of, tests_new, tests_plain, prepared_child, changed_by, one_changed, pending_listed, step_of}
+use Rattle.core_updates.proofs.RaiseParts.{two_changed}
 
 module _ (z : Layout) (m : Memory) (vs : List View) (g : Meaning) (rule : Rule z m vs g) (i : ℕ) (v : View) (at : IsItem vs i v) where
   abbrev now : Graph

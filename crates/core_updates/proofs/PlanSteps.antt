@@ -1,23 +1,39 @@
--- The events of a plan are allowed from the view, and a try that fails has made a count rise.
-use Rattle.std.proofs.Common.{◌≡◌, ℕ, zero, suc, ◌<◌, inl, inr, List, [], ◌∷◌, Bool, true, false, cond, refl, ap, sym, subst, Option, Some, None, ◌⊎◌, ◌∙◌, ◌≤◌, ◌&&◌, ◌||◌, arith}
+-- A seat holds a node once; a plan's events are allowed from the view, and a try that fails has made a count rise.
+use Rattle.std.proofs.Common.{◌≡◌, ℕ, zero, suc, ◌+◌, ◌<◌, ◌≤◌, cond, List, [], ◌∷◌, Bool, true, false, eqb, ap, subst, arith, Some, inl, inr, refl, sym}
+use Rattle.std.proofs.Common.{None, ◌⊎◌, ◌∙◌, ◌&&◌, ◌||◌}
+use Rattle.std.specs.List.{slice_get, sum_by, list_any}
+use Rattle.std.proofs.lemmas.Bool.{eq-eqb, ne_eqb, and_parts, eqb-true}
+use Rattle.std.proofs.lemmas.Bool.Decides.{nat_tests}
 use Rattle.std.specs.Prelude.{◌==◌, IfSome}
 use Rattle.index_words.specs.declared.layout.Layout.{Layout}
+use Rattle.index_words.specs.declared.view.View.{View}
+use Rattle.index_words.specs.declared.view.update.HeldNode.{HeldNode}
+use Rattle.index_words.specs.declared.word.Field.TheVariants.{Lock, Key, Val, Mark, Head, Link, Tag}
+use Rattle.index_words.specs.declared.word.Word.TheVariants.{Node, Entry}
+use Rattle.index_words.specs.Words.{memory}
+use Rattle.index_words.proofs.Seats.{one_term}
 use Rattle.index_words.specs.declared.side.Side.{Side}
 use Rattle.index_words.specs.declared.side.Side.TheVariants.{Left, Right}
-use Rattle.index_words.specs.declared.view.View.{View}
-use Rattle.index_words.specs.declared.word.Field.TheVariants.{Key, Val, Mark, Head, Link, Tag}
 use Rattle.index_words.specs.declared.word.Part.TheVariants.{Child, Stamp as Number, Next}
-use Rattle.index_words.specs.declared.word.Word.TheVariants.{Node, Entry}
-use Rattle.key_map.specs.Lists.{count, Every, IsItem}
+use Rattle.key_map.specs.Lists.{count, IsItem, Every}
+use Rattle.core_grace.specs.Holds.{held_slots}
+use Rattle.core_grace.specs.Batches.{is_number}
+use Rattle.core_events.specs.UpdateNeeds.{held_at, is_written, side_of}
 use Rattle.core_events.specs.declared.event.Kind.TheVariants.{Prepare}
 use Rattle.core_events.specs.Needs.{is_successor}
-use Rattle.core_events.specs.UpdateNeeds.{held_at, is_written, side_of}
+use Rattle.core_events.specs.Searches.{held_side, knows_link, knows_tag}
+use Rattle.core_events.specs.Tables.{Table, held_by}
+use Rattle.core_events.proofs.Tests.{number_of_is}
+use Rattle.core_invariant.specs.Locks.{lock_count}
+use Rattle.core_invariant.specs.Rule.{InRule, IsRight}
+use Rattle.core_invariant.proofs.OneView.{item_from_get, seat_at}
+use Rattle.core_invariant.specs.Readers.{IsLocked}
 use Rattle.core_laws.specs.Counts.{CountsLaw}
 use Rattle.core_laws.specs.Searching.{OwnLeftLaw}
 use Rattle.core_laws.specs.ViewNeeds.{May, IsInReach, IsSearched, event_at, HasFilled}
 use Rattle.core_laws.proofs.PlainNeeds.{may_read_link_law, may_read_tag_law}
-use Rattle.core_invariant.proofs.OneView.{item_from_get}
-use Rattle.core_laws.proofs.ViewNeeds.{may_leave_law, may_fill_law, may_read_head_law, may_prepare_law, may_finalise_law, may_lock_law, may_unlock_law, may_read_mark_law, may_mark_law, may_read_key_law, may_read_val_law}
+use Rattle.core_laws.proofs.ViewNeeds.{may_leave_law, may_fill_law, may_read_head_law, may_prepare_law, may_finalise_law, may_lock_law, may_unlock_law}
+use Rattle.core_laws.proofs.ViewNeeds.{may_read_mark_law, may_mark_law, may_read_key_law, may_read_val_law}
 use Rattle.core_laws.proofs.Waits.{may_leave_waiting_law}
 use Rattle.core_updates.specs.declared.plan.Plan.{Plan}
 use Rattle.core_updates.specs.declared.plan.Plan.TheVariants.{Grow, Replace, Lift, Join}
@@ -27,17 +43,47 @@ use Rattle.core_updates.specs.declared.plan.Front.{Front}
 use Rattle.core_updates.specs.declared.plan.NewNode.{NewNode}
 use Rattle.core_updates.specs.Plans.{or_none, fronts_of, new_node_of, node_fills, entry_fills, head_of, fresh_to, child_of}
 use Rattle.core_updates.specs.PlanEvents.{HasSlots, IsDue, KnowsLink, KnowsTag, MayFillAll, EventsLaw, FailuresLaw}
-use Rattle.core_grace.specs.Batches.{is_number}
-use Rattle.core_events.specs.Searches.{held_side, knows_link, knows_tag}
-use Rattle.core_events.specs.Tables.{Table, held_by}
-use Rattle.core_invariant.specs.Readers.{IsLocked}
-use Rattle.core_invariant.specs.Rule.{InRule, IsRight}
-use Rattle.index_words.specs.declared.view.update.HeldNode.{HeldNode}
-use Rattle.index_words.specs.Words.{memory}
-use Rattle.std.specs.List.{slice_get, list_any}
-use Rattle.std.proofs.lemmas.Bool.{and_parts, eqb-true}
-use Rattle.core_invariant.proofs.OneView.{seat_at}
-use Rattle.core_updates.proofs.HeldOnce.{held_once}
+
+counted : (k n : ℕ) → 0 < cond (eqb k k) 1 0 + n
+counted k n = grind (arith, nat_tests)
+
+twice : (x k n : ℕ) → x ≡ k → cond (eqb x k) 1 0 + n ≡ 1 + n
+twice x k n e = grind (arith, nat_tests)
+
+counts-item : (hs : List HeldNode) (i : ℕ) (h : HeldNode) → IsItem hs i h → 0 < count h.node (held_slots hs)
+counts-item [] i h at = absurd (omega (arith, at.within))
+counts-item (x ∷ hs) zero h at = subst (λ (y : HeldNode). 0 < count y.node (held_slots (x ∷ hs))) (at.is x) (counted x.node (count x.node (held_slots hs)))
+counts-item (x ∷ hs) (suc i) h at = omega (arith, counts-item hs i h (record { within = omega (arith, at.within); is = λ d. at.is d }))
+
+-- the one item of a node is the one that is found
+pub held-item : (hs : List HeldNode) (i : ℕ) (h : HeldNode) → IsItem hs i h → count h.node (held_slots hs) ≤ 1 → held_at h.node hs ≡ Some h
+held-item [] i h at once = absurd (omega (arith, at.within))
+held-item (x ∷ hs) zero h at once =
+    let is : x ≡ h = at.is x in
+    rw (eq-eqb x.node h.node (ap (λ (y : HeldNode). y.node) is)) (ap Some is)
+held-item (x ∷ hs) (suc i) h at once =
+    let below : IsItem hs i h = record { within = omega (arith, at.within); is = λ d. at.is d } in
+    let some : 0 < count h.node (held_slots hs) = counts-item hs i h below in
+    let apart : ¬ (x.node ≡ h.node) = λ e. omega (arith, once, some, twice x.node h.node (count h.node (held_slots hs)) e) in
+    rw (ne_eqb x.node h.node apart) (held-item hs i h below (omega (arith, once)))
+
+at_most_one : (b : Bool) → 0 + cond b 0 1 ≤ 1
+at_most_one true = omega arith
+at_most_one false = omega arith
+
+-- in a table that meets the rule
+pub held_once : (z : Layout) (words : List ℕ) (vs : List View) (seat place : ℕ) (v : View) (held : HeldNode) → InRule z words vs → slice_get vs seat ≡ Some v
+    → IsItem v.held.nodes place held → held_at held.node v.held.nodes ≡ Some held
+held_once z words vs seat place v held right is at =
+    let total : sum_by (lock_count held.node) vs ≡ cond (eqb (memory z words (Node Lock held.node)) 0) 0 1 = right.rule.locks held.node in
+    held-item v.held.nodes place held at (omega (
+      arith,
+      total,
+      at_most_one (eqb (memory z words (Node Lock held.node)) 0),
+      one_term (lock_count held.node) vs seat v (item_from_get vs seat v is),
+    ))
+
+-- The events of a plan are allowed from the view, and a try that fails has made a count rise.
 
 -- a test that holds of no item
 never_any : {X : Type 0} (on : X → Bool) (xs : List X) → ((i : ℕ) (x : X) → IsItem xs i x → on x ≡ true → ⊥) → list_any on xs ≡ false
@@ -49,10 +95,6 @@ never_any on (x ∷ xs) none' =
     or-none : (b c : Bool) → (b ≡ true → ⊥) → c ≡ false → (b || c) ≡ false
     or-none true c never c_is = absurd (never refl)
     or-none false c never c_is = c_is
-
-number-of : (x : ℕ) (o : Option ℕ) → is_number x o ≡ true → o ≡ Some x
-number-of x None is = cc
-number-of x (Some y) is = ap Some (eqb-true y x is)
 
 module _ (z : Layout) (v : View) (seat : ℕ) where
   fills-node : (n : NewNode) → 0 < count n.slot v.free.nodes → Every (MayFillAll z v seat) (node_fills n)
@@ -203,7 +245,7 @@ module _ (t : Table) (seat : ℕ) (v : View) (right : IsRight t) (is : slice_get
         held = h;
         locked = held-of k i h at (eqb-true h.node k parts.0);
         child = x;
-        known = link-side side h x (number-of x (held_side side h).link parts.1);
+        known = link-side side h x (number_of_is x (held_side side h).link parts.1);
       }))
     where
       link-side : (side : Side) (h : HeldNode) (x : ℕ) → (held_side side h).link ≡ Some x → (side_of side h).link ≡ Some x
@@ -219,7 +261,7 @@ module _ (t : Table) (seat : ℕ) (v : View) (right : IsRight t) (is : slice_get
         held = h;
         locked = held-of k i h at (eqb-true h.node k parts.0);
         found = x;
-        known = tag-side side h x (number-of x (held_side side h).tag parts.1);
+        known = tag-side side h x (number_of_is x (held_side side h).tag parts.1);
       }))
     where
       tag-side : (side : Side) (h : HeldNode) (x : ℕ) → (held_side side h).tag ≡ Some x → (side_of side h).tag ≡ Some x

@@ -1,13 +1,27 @@
--- What the store of a plain link leaves of searches in the plain tree.
-use Rattle.std.proofs.Common.{◌≡◌, ℕ, ◌<◌, ◌≤◌, ◌⊎◌, inl, inr, refl, sym, subst, arith}
+-- What a change of one subtree, as the store of a plain link, leaves of searches in the plain tree.
+use Rattle.std.proofs.Common.{ℕ, ◌⊎◌, ◌≡◌, ◌<◌, ◌≤◌, inl, inr, refl, sym, subst, arith}
+use Rattle.core_links.proofs.Compare.{compared, less, more, same}
 use Rattle.core_trees.specs.NamedTree.{NamedTree, Null, Branch}
 use Rattle.core_trees.specs.Gaps.{IsNull}
-use Rattle.core_links.proofs.Compare.{compared, less, more, same}
-use Rattle.plain_trees.specs.Points.{point_of, Meets}
+use Rattle.plain_trees.specs.Points.{Meets, point_of}
 use Rattle.plain_trees.specs.Successors.{LeadsTo, LeadsFrom}
 use Rattle.plain_trees.specs.Stores.{Relinks, Grows, Replaces, LiftsRight, LiftsLeft, Copies, Joins}
-use Rattle.plain_trees.proofs.Forms.{LeavesMet, LeavesLeads, LeavesFrom}
 use Rattle.plain_trees.proofs.Points.{leads-below}
+
+-- each node that the search for a point met is still met, or `other` holds of it
+abbrev pub LeavesMet : ℕ → (ℕ → NamedTree → Type 0) → (NamedTree → NamedTree → Type 0) → Type 0
+LeavesMet x other change = (c : ℕ) (t u : NamedTree) → change t u → Meets x c t → Meets x c u ⊎ other c u
+
+-- the way to a successor stays
+abbrev pub LeavesLeads : (ℕ → Type 0) → ℕ → ℕ → (NamedTree → NamedTree → Type 0) → Type 0
+LeavesLeads bypassed x s change = (t u : NamedTree) → change t u → LeadsTo bypassed x s t → LeadsTo bypassed x s u
+
+-- and it does so from each node that stays
+abbrev pub LeavesFrom : (ℕ → Type 0) → ℕ → ℕ → (ℕ → Type 0) → (NamedTree → NamedTree → Type 0) → Type 0
+LeavesFrom bypassed x s gone change =
+    (c : ℕ) (t u : NamedTree) → change t u → LeadsFrom bypassed x s c t → LeadsFrom bypassed x s c u ⊎ gone c
+
+-- What the store of a plain link leaves of searches in the plain tree.
 
 -- what is said of a node of a subtree is said of it in the tree
 abbrev pub Rises : (ℕ → NamedTree → Type 0) → Type 0

@@ -1,23 +1,134 @@
--- What a seat has found at a null link holds of the tree at the stamp.
-use Rattle.std.proofs.Common.{◌≡◌, ℕ, Bool, ◌^◌, ◌<◌, ◌⊎◌, inl, inr, [], refl, ap, sym, ◌∙◌, subst, arith, Option, Some}
+-- How a search on plain links begins and goes on, and what a seat has found where it ends at a null link.
+use Rattle.std.proofs.Common.{◌≡◌, ℕ, ◌<◌, ◌⊎◌, inl, inr, refl, sym, ◌∙◌, subst, arith, [], ◌∷◌, Option, Some, None, Bool, ◌^◌, ap}
 use Rattle.std.proofs.lemmas.Bool.Decides.{eqb_tells}
 use Rattle.index_words.specs.declared.side.Side.{Side}
 use Rattle.index_words.specs.declared.side.Side.TheVariants.{Left, Right}
+use Rattle.core_links.proofs.Compare.{compared, less, more, same}
 use Rattle.core_trees.specs.NamedTree.{NamedTree, Null, Branch, IsLawful}
+use Rattle.core_trees.specs.Slots.{occurs}
+use Rattle.core_trees.specs.SpelledTree.{Graph, IsSpelled}
 use Rattle.core_trees.specs.Gaps.{IsNull, IsGapLink}
 use Rattle.core_trees.specs.Search.{EndsAt, end_node}
 use Rattle.core_trees.specs.TreeStep.{subtree_at}
-use Rattle.core_trees.specs.Slots.{occurs}
-use Rattle.core_trees.specs.SpelledTree.{Graph, IsSpelled}
 use Rattle.core_trees.proofs.Gaps.{null-lacks, absent_gap}
 use Rattle.core_trees.proofs.Updates.{subtree_at-left, subtree_at-right, end_node-left, end_node-right, end_side-left, end_side-right}
-use Rattle.plain_trees.specs.Points.{point_of, Meets, EndsAtNull, IsOn, IsAbove, IsUnder, IsInTurns}
+use Rattle.plain_trees.specs.Points.{point_of, EndsAtNull, Meets, IsOn, IsInTurns, IsAbove, IsUnder}
+use Rattle.plain_trees.specs.Matching.{Undone, IsUnset, IsOut, IsBypassed, IsOrderly, Same, Replaced, Copied, LiftedRight, LiftedLeft, Matches}
+use Rattle.plain_trees.proofs.Points.{null-ends, leads-ends, leads-in, null-leads, leads-sub}
+use Rattle.plain_trees.specs.Claims.{IsWaiting, IsExcepted, Claims}
+use Rattle.plain_trees.specs.Walks.{low_turn, high_turn, BeginLaw, WalkLaw}
+use Rattle.plain_trees.proofs.Ways.{meets-in, top-meets, on-left, on-right}
 use Rattle.plain_trees.specs.Successors.{LeadsTo}
-use Rattle.plain_trees.specs.Matching.{Undone, IsOut, IsBypassed, IsOrderly}
-use Rattle.plain_trees.specs.Claims.{IsWaiting, IsExcepted}
 use Rattle.plain_trees.specs.NullLinks.{turn_of, EndedAt, NullLinkLaw}
-use Rattle.plain_trees.proofs.Points.{null-leads, leads-sub}
-use Rattle.plain_trees.proofs.Matching.{ends-now}
+
+module _ (u : Undone) (orderly : IsOrderly u)
+    (x node : ℕ) (side : Side) (there : ¬ IsOut u node) (settled : (was child : ℕ) → IsUnset u node side was child → ⊥) where
+  -- the link at which the plain tree hangs is the one at which the tree at the stamp hangs, or its node is out
+  at-null : (a p : ℕ) (w d : Side) → (node ≡ a) × (side ≡ w) → IsOut u a ⊎ ((a ≡ p) × (w ≡ d)) → (node ≡ p) × (side ≡ d)
+  at-null a p w d here (inl o) = absurd (there (subst (IsOut u) (sym here.0) o))
+  at-null a p w d here (inr e) = (here.0 ∙ e.0, here.1 ∙ e.1)
+
+  pub ends-now : (a p : ℕ) (w d : Side) (plain now : NamedTree) → Matches u p d plain now → EndsAtNull x node side a w plain
+      → IsOut u a ⊎ ((a ≡ p) × (w ≡ d)) → EndsAtNull x node side p d now
+  ends-now a p w d Null Null h ends at = at-null a p w d ends at
+  ends-now a p w d Null (Branch m k v l r) (inl h) ends at = absurd h
+  ends-now a p w d Null (Branch m k v l r) (inr h) ends at =
+      let here : (node ≡ p) × (side ≡ d) = at-null a p w d ends at in
+      absurd (settled 0 m (subst (λ n. IsUnset u n side 0 m) (sym here.0) (subst (λ s. IsUnset u p s 0 m) (sym here.1) h.2)))
+  -- the same node
+  ends-now a p w d (Branch c k v l r) Null (Same h) ends at = absurd h
+  ends-now a p w d (Branch c k v l r) (Branch m key val l' r') (Same h) (inl left) at =
+      inl (
+        subst (λ z. x < point_of z) (sym h.1) left.0,
+        subst (λ z. EndsAtNull x node side z Left l') (sym h.0)
+            (ends-now c c Left Left l l' h.2 left.1 (inr (refl, refl))),
+      )
+  ends-now a p w d (Branch c k v l r) (Branch m key val l' r') (Same h) (inr right) at =
+      inr (
+        subst (λ z. point_of z < x) (sym h.1) right.0,
+        subst (λ z. EndsAtNull x node side z Right r') (sym h.0)
+            (ends-now c c Right Right r r' h.3 right.1 (inr (refl, refl))),
+      )
+  -- a replaced node
+  ends-now a p w d (Branch c k v l r) Null (Replaced o h) ends at = absurd h
+  ends-now a p w d (Branch c k v l r) (Branch m key val l' r') (Replaced o h) (inl left) at =
+      inl (subst (λ z. x < point_of z) (sym h.0) left.0, ends-now c m Left Left l l' h.2 left.1 (inl o))
+  ends-now a p w d (Branch c k v l r) (Branch m key val l' r') (Replaced o h) (inr right) at =
+      inr (subst (λ z. point_of z < x) (sym h.0) right.0, ends-now c m Right Right r r' h.3 right.1 (inl o))
+  -- a node whose place a copy of its successor takes
+  ends-now a p w d (Branch c k v l r) Null (Copied o h) ends at = absurd h
+  ends-now a p w d (Branch c k v l r) (Branch m key val l' r') (Copied o h) (inl left) at =
+      inl (omega (arith, left.0, h.0), ends-now c m Left Left l l' h.4 left.1 (inl o))
+  ends-now a p w d (Branch c k v l r) (Branch m key val l' r') (Copied o h) (inr right) at =
+      elim (compared (point_of key) x) as (λ _. EndsAtNull x node side p d (Branch m key val l' r')) [
+        | less b ↦ inr (b, ends-now c m Right Right r r' h.5 right.1 (inl o))
+        | more b ↦ absurd (there (never (leads-ends (IsBypassed u) x h.3.0 node c side Right r (h.3.2 x right.0 (omega (arith, b))) right.1)))
+        | same e ↦ absurd (there (never (leads-ends (IsBypassed u) x h.3.0 node c side Right r (h.3.2 x right.0 (omega (arith, e))) right.1)))
+      ]
+    where
+      never : (node ≡ h.3.0) ⊎ IsBypassed u node → IsOut u node
+      never (inl e) = subst (IsOut u) (sym e) (orderly.heirs c h.3.0 h.3.1)
+      never (inr b) = orderly.passes node b
+  -- a node that is bypassed to its right
+  ends-now a p w d (Branch c k v l r) now (LiftedRight o h) (inl left) at =
+      absurd (there (subst (IsOut u) (sym (null-ends x node c side Left l h.1 left.1).0) o))
+  ends-now a p w d (Branch c k v l r) now (LiftedRight o h) (inr right) at =
+      ends-now c p Right d r now h.4 right.1 (inl o)
+  -- and to its left
+  ends-now a p w d (Branch c k v l r) now (LiftedLeft o h) (inl left) at =
+      ends-now c p Left d l now h.3 left.1 (inl o)
+  ends-now a p w d (Branch c k v l r) now (LiftedLeft o h) (inr right) at =
+      absurd (there (subst (IsOut u) (sym (null-ends x node c side Right r h.0 right.1).0) o))
+
+-- A search on plain links begins, and goes on.
+
+-- a node of the plain tree that the search meets, or at which the point is excepted
+told-claims : (g : Graph) (bypassed : ℕ → Type 0) (waits : ℕ → ℕ → Type 0) (plain : NamedTree) (x a : ℕ)
+    → Meets x a plain ⊎ IsExcepted g bypassed waits plain x a → Claims g bypassed waits plain x a
+told-claims g bypassed waits plain x a h [] c way o = subst (λ z. Meets x z plain ⊎ IsExcepted g bypassed waits plain x z) way h
+told-claims g bypassed waits plain x a (inl h) (m ∷ ms) c way o = absurd (omega (arith, way.2, subst (λ z. 0 < occurs z plain) way.0 (meets-in x a plain h)))
+told-claims g bypassed waits plain x a (inr h) (m ∷ ms) c way o =
+    absurd (omega (arith, way.2, subst (λ z. 0 < occurs z plain) way.0 (leads-in bypassed x h.successor a plain h.leads)))
+
+-- the search goes on: what is claimed of the node at which it stands is claimed of the child on the point's side
+pub walks-left : (g : Graph) (bypassed : ℕ → Type 0) (waits : ℕ → ℕ → Type 0) (plain : NamedTree) (x a : ℕ) → IsSpelled g (g.child Right 0) plain
+    → Claims g bypassed waits plain x a → 0 < a → x < point_of (g.key a) → 0 < g.child Left a → Claims g bypassed waits plain x (g.child Left a)
+walks-left g bypassed waits plain x a spelled claims some on there =
+    elim (eqb_tells (occurs a plain) 0) as (λ _. Claims g bypassed waits plain x (g.child Left a)) [
+      | inl n ↦ λ ms c way o. claims (a ∷ ms) c (refl, some, n.1, inl (on, way)) o
+      | inr ne ↦ told-claims g bypassed waits plain x (g.child Left a) (on-left g bypassed waits plain x spelled a (claims [] a refl (omega (arith, ne.1))) on there)
+    ]
+
+pub walks-right : (g : Graph) (bypassed : ℕ → Type 0) (waits : ℕ → ℕ → Type 0) (plain : NamedTree) (x a : ℕ) → IsSpelled g (g.child Right 0) plain
+    → Claims g bypassed waits plain x a → 0 < a → point_of (g.key a) < x → 0 < g.child Right a → Claims g bypassed waits plain x (g.child Right a)
+walks-right g bypassed waits plain x a spelled claims some on there =
+    elim (eqb_tells (occurs a plain) 0) as (λ _. Claims g bypassed waits plain x (g.child Right a)) [
+      | inl n ↦ λ ms c way o. claims (a ∷ ms) c (refl, some, n.1, inr (on, way)) o
+      | inr ne ↦ told-claims g bypassed waits plain x (g.child Right a) (on-right g bypassed waits plain x spelled a (claims [] a refl (omega (arith, ne.1))) on there)
+    ]
+
+-- after a turn to this side at a key between the turns, each point between the new turns is between the old ones, and
+-- on this side
+narrows : (side : Side) (key : ℕ) (low high : Option ℕ) (x : ℕ) → IsInTurns low high (point_of key) → IsInTurns (low_turn side key low) (high_turn side key high) x
+    → IsInTurns low high x × IsOn side key x
+narrows Left key low None x inside new = ((new.0, tt), new.1)
+narrows Left key low (Some high) x inside new = ((new.0, omega (arith, new.1, inside.1)), new.1)
+narrows Right key None high x inside new = ((tt, new.1), new.0)
+narrows Right key (Some low) high x inside new = ((omega (arith, new.0, inside.0), new.1), new.0)
+
+pub begin_law : BeginLaw
+begin_law g u waits plain spelled some x inside =
+    told-claims g (IsBypassed u) (IsWaiting waits) plain x (g.child Right 0) (inl (top-meets g x (g.child Right 0) plain some spelled))
+
+pub walk_law : WalkLaw
+walk_law g u waits plain low high node key Left spelled some keys inside there claims x new =
+    let on : IsInTurns low high x × IsOn Left key x = narrows Left key low high x inside new in
+    walks-left g (IsBypassed u) (IsWaiting waits) plain x node spelled (claims x on.0) some (subst (λ z. IsOn Left z x) (sym keys) on.1) there
+walk_law g u waits plain low high node key Right spelled some keys inside there claims x new =
+    let on : IsInTurns low high x × IsOn Right key x = narrows Right key low high x inside new in
+    walks-right g (IsBypassed u) (IsWaiting waits) plain x node spelled (claims x on.0) some (subst (λ z. IsOn Right z x) (sym keys) on.1) there
+
+-- What a seat has found at a null link holds of the tree at the stamp.
 
 -- the tree that hangs at a null link
 null-tree : (g : Graph) (c : ℕ) (t : NamedTree) → c ≡ 0 → IsSpelled g c t → t ≡ Null

@@ -8,9 +8,8 @@ use Rattle.core_trees.specs.TreeStep.{subtree_at, put_here, remove_here, update,
 use Rattle.core_trees.proofs.Updates.{update-left, update-right, update-here, subtree_at-left, subtree_at-right, subtree_at-here}
 use Rattle.plain_trees.specs.Matching.{Undone, IsUnset, IsOut, IsBypassed, IsHeir, AllBelow, AllAbove, Same, Replaced, Copied, LiftedRight, LiftedLeft, Matches}
 use Rattle.plain_trees.specs.Raises.{Extends, IsFoundAt, IsLinkTo, IsFirst, LeavesSuccessor, LeavesUnset, ReplaceLaw, RemoveLaw}
-use Rattle.plain_trees.proofs.Ahead.{null-plain, ahead, first-from, has-first}
+use Rattle.plain_trees.proofs.Inserts.{null-plain, ahead, first-from, has-first, ahead-more, still, moved}
 use Rattle.plain_trees.proofs.Points.{leads-keep}
-use Rattle.plain_trees.proofs.Extending.{ahead-more, still, moved}
 
 within-below : (low high bound : ℕ) (t : NamedTree) → IsWithin low high t → high ≤ bound → AllBelow bound t
 within-below low high bound Null h b = tt

@@ -12,11 +12,8 @@ use Rattle.plain_trees.specs.Points.{IsOn}
 use Rattle.plain_trees.specs.Successors.{LeadsTo}
 use Rattle.plain_trees.specs.Matching.{IsOut, IsBypassed, Matches}
 use Rattle.plain_trees.specs.Settling.{IsNew}
-use Rattle.plain_trees.proofs.SetAway.{Setting}
+use Rattle.plain_trees.proofs.SetForms.{Setting, Clear, away, framed, form-left, form-right, counts-left, counts-right, form-leads, Form, Counts, Known, Done}
 use Rattle.plain_trees.proofs.Matched.{null-occurs, stays-in}
-use Rattle.plain_trees.proofs.SetAway.{Clear, away, framed}
-use Rattle.plain_trees.proofs.SetForms.{form-left, form-right, counts-left, counts-right, form-leads, Form, Counts}
-use Rattle.plain_trees.proofs.SetKnown.{Known, Done}
 use Rattle.plain_trees.proofs.SetNodes.{at-link}
 
 module _ (S : Setting) where

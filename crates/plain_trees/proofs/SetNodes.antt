@@ -7,12 +7,10 @@ use Rattle.core_trees.specs.SpelledTree.{IsSpelled}
 use Rattle.core_trees.proofs.Slots.{one_at-same, one_at-other}
 use Rattle.plain_trees.specs.Matching.{IsUnset, IsOut, IsHeir, HasWayAhead, Same, Replaced, Copied, LiftedRight, LiftedLeft, Matches}
 use Rattle.plain_trees.specs.Settling.{IsNew, PassesOver}
-use Rattle.plain_trees.proofs.SetAway.{Setting}
+use Rattle.plain_trees.proofs.SetForms.{Setting, same-top, quiet, framed, counts-swapped, counts-joined, counts-lifted, is-new, new-at, top-child, new-child, new-kid}
+use Rattle.plain_trees.proofs.SetForms.{near, clear-at, is-left, unpassed, apart-new, lifted-in, fresh-left, Known, Done}
 use Rattle.plain_trees.proofs.Matched.{null-occurs, same-child, null-is, stays-in, tops}
-use Rattle.plain_trees.proofs.SetAway.{same-top, quiet, framed}
-use Rattle.plain_trees.proofs.SetForms.{counts-swapped, counts-joined, counts-lifted}
 use Rattle.plain_trees.proofs.SetForms.Form.{grown, right, left, swapped, copied, joined}
-use Rattle.plain_trees.proofs.SetKnown.{is-new, new-at, top-child, new-child, new-kid, near, clear-at, is-left, unpassed, apart-new, lifted-in, fresh-left, Known, Done}
 
 module _ (S : Setting) where
   open S use {g, g', h, u, u', W, N, q, w, was, child, sets, may, moves}

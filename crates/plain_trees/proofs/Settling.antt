@@ -11,12 +11,9 @@ use Rattle.core_trees.proofs.Slots.{one_at-same, one_at-other}
 use Rattle.plain_trees.specs.Matching.{IsOut, IsBypassed, IsHeir, Same, Replaced, Copied, LiftedRight, LiftedLeft, Matches}
 use Rattle.plain_trees.specs.Stores.{IsStore, Insert, LiftRight, LiftLeft, Replace, Copy, Join}
 use Rattle.plain_trees.specs.Settling.{IsCopy, IsNew, IsSet, SetLaw}
-use Rattle.plain_trees.proofs.SetAway.{Setting}
+use Rattle.plain_trees.proofs.SetForms.{Setting, ahead-kept, rest-kept, framed, form-left, form-right, IsPassed, counts-left, counts-right, Form, Known, Done}
 use Rattle.plain_trees.proofs.Matched.{null-occurs, spelled-some, one_at-most}
-use Rattle.plain_trees.proofs.SetAway.{ahead-kept, rest-kept, framed}
-use Rattle.plain_trees.proofs.SetForms.{form-left, form-right, IsPassed, counts-left, counts-right, Form}
 use Rattle.plain_trees.proofs.SetForms.Form.{grown, right, left, swapped, copied, joined}
-use Rattle.plain_trees.proofs.SetKnown.{Known, Done}
 use Rattle.plain_trees.proofs.SetBelow.{aims, not-here, kids, same-left, same-right, out-other, new-left, new-right, not-new, at-here, Kids}
 
 module _ (S : Setting) where

@@ -8,8 +8,8 @@ use Rattle.plain_trees.specs.Successors.{LeadsFrom}
 use Rattle.plain_trees.specs.Matching.{Undone, IsBypassed}
 use Rattle.plain_trees.specs.Claims.{IsWaiting, IsExcepted, Claims}
 use Rattle.plain_trees.specs.Stores.{Relinks, Grows, Replaces, LiftsRight, LiftsLeft, Copies, Joins, IsStore, Insert, LiftRight, LiftLeft, Replace, Copy, Join, IsTest, Stores, ReachesNoNew, StoreLaw}
-use Rattle.plain_trees.proofs.Forms.{LeavesMet, LeavesLeads, LeavesFrom}
-use Rattle.plain_trees.proofs.Changes.{Rises, meets-on, from-on, grows-met, replaces-met, lifts_right-met, lifts_left-met, copies-met, joins-met, grows-leads, replaces-leads, lifts_right-leads, lifts_left-leads, copies-leads, joins-leads, grows-from, replaces-from, lifts_right-from, lifts_left-from, copies-from, joins-from}
+use Rattle.plain_trees.proofs.Changes.{LeavesMet, LeavesLeads, LeavesFrom, Rises, meets-on, from-on, grows-met, replaces-met, lifts_right-met, lifts_left-met, copies-met, joins-met, grows-leads, replaces-leads, lifts_right-leads, lifts_left-leads, copies-leads, joins-leads, grows-from, replaces-from, lifts_right-from}
+use Rattle.plain_trees.proofs.Changes.{lifts_left-from, copies-from, joins-from}
 use Rattle.plain_trees.proofs.Ways.{outer}
 use Rattle.plain_trees.proofs.Points.{from-keep}
 

@@ -18,11 +18,11 @@ use Rattle.core_events.specs.LoadMoves.{longest}
 use Rattle.core_events.specs.SpelledNow.{tree_now}
 use Rattle.core_events.specs.Tables.{Table, held_by}
 use Rattle.core_events.specs.TreeMoves.{takes, tree_move}
-use Rattle.core_events.specs.UpdateMoves.{without, without_all}
+use Rattle.core_events.specs.UpdateMoves.{without_all}
 use Rattle.core_invariant.specs.Rule.{IsRight}
 use Rattle.core_invariant.proofs.OneView.{item_from_get}
 use Rattle.core_invariant.proofs.Owned.{once_node, once_entry}
-use Rattle.core_laws.proofs.Found.{stamp_law}
+use Rattle.core_laws.proofs.Found.{stamp_law, length-without}
 use Rattle.core_updates.specs.declared.plan.Plan.{Plan}
 use Rattle.core_updates.specs.declared.plan.Plan.TheVariants.{Grow, Replace, Lift, Join}
 use Rattle.core_updates.specs.declared.plan.PlanSlots.{PlanSlots}
@@ -30,17 +30,7 @@ use Rattle.core_updates.specs.PlanReady.{HoldsNewNode, PlanMayRaiseLaw}
 use Rattle.core_updates.specs.Plans.{key_of, change_of, out_of, new_node_of, entries_of, fresh_entries, fresh_listed, fresh_to, or_none, slot_of}
 use Rattle.plan_laws.specs.Raises.{update_by}
 use Rattle.plan_laws.specs.Answers.{was_there, MovesNodes, owned_nodes, AnswerLaw, PreparedOwnsLaw, FourEntriesLaw}
-use Rattle.plan_laws.proofs.Raises.{entries-are}
-
--- a list without one number
-length-without : (e : ℕ) (xs : List ℕ) → length (without e xs) + count e xs ≡ length xs
-length-without e [] = refl
-length-without e (x ∷ xs) = by (eqb x e) (length-without e xs)
-  where
-    by : (b : Bool) → length (without e xs) + count e xs ≡ length xs
-        → length (cond (not b) (x ∷ without e xs) (without e xs)) + (cond b 1 0 + count e xs) ≡ suc (length xs)
-    by true rest = omega (arith, rest)
-    by false rest = omega (arith, rest)
+use Rattle.plan_laws.proofs.PlanFronts.{entries-are}
 
 -- how often these numbers stand in a list
 abbrev all_of : List ℕ → List ℕ → ℕ

@@ -13,6 +13,8 @@ use Rattle.core_events.specs.LockMoves.{mark_known}
 use Rattle.core_events.specs.PlainMoves.{link_known_at, tag_known_at, link_set, still_unlinking}
 use Rattle.core_events.specs.PlainNeeds.{unlinks_at}
 use Rattle.core_events.specs.UpdateNeeds.{held_at}
+use Rattle.core_invariant.proofs.Sides.{same_side-refl}
+use Rattle.core_invariant.proofs.Undone.{in_pair_second}
 use Rattle.core_laws.specs.PlainNeeds.{MayUnlink}
 use Rattle.core_updates.specs.declared.plan.Front.{Front}
 use Rattle.core_updates.specs.declared.plan.JoinPlan.{JoinPlan}
@@ -21,7 +23,7 @@ use Rattle.plan_laws.proofs.HeldMaps.{mark-node, link-node, link-mark, tag-node,
 use Rattle.plan_laws.proofs.Items.{map-keeps}
 use Rattle.plan_laws.proofs.Kept.{found-at, held-maps}
 use Rattle.plan_laws.proofs.PartedHeld.{link-tag, mark-tag, mark-other, known-marks, one-link, both-marked}
-use Rattle.plan_laws.proofs.PlainLinks.{slots-stay, marks-stay, same-node, own-side, sets-first, sets-rest, owes-first, tags-rest, no-links}
+use Rattle.plan_laws.proofs.PlainLinks.{slots-stay, marks-stay, same-node, sets-first, sets-rest, owes-first, tags-rest, no-links}
 use Rattle.plan_laws.proofs.Parting.{swapped}
 
 -- the front of the link at which the far successor is unlinked, without its entry
@@ -46,21 +48,18 @@ kept-apart q s le = by (eqb s q) (subst (λ x. cond x 1 0 + (cond (eqb s q) 1 0 
     by true h = absurd (omega (arith, h))
     by false h = refl
 
-second-counts : (a b : ℕ) → 0 < count b (a ∷ b ∷ [])
-second-counts a b = subst (λ x. 0 < cond (eqb a b) 1 0 + (cond x 1 0 + 0)) (sym (same-node b)) (omega arith)
-
 pub mark_far : MarkFarLaw
 mark_far v n p tag parted =
     let h = parted.parting in
     let q : ℕ = p.next.at.node in
     let s : ℕ = p.next.node in
     let f = mark_known s 1 in
-    let locked : 0 < count s (held_slots v.held.nodes) = subst (λ ks. 0 < count s ks) (sym h.locked) (second-counts q s) in
+    let locked : 0 < count s (held_slots v.held.nodes) = subst (λ ks. 0 < count s ks) (sym h.locked) (in_pair_second q s) in
     let off : eqb q s ≡ false = swapped s q (kept-apart q s (h.once q)) in
     let other : eqb h.unmarked.node.node s ≡ false = ap (λ k. eqb k s) (found-at q h.unmarked.node v.held.nodes h.unmarked.at).node_is ∙ off in
     let here = found-held s v.held.nodes locked in
     record {
-      may = record { locked = locked; taken = subst (λ ks. 0 < count s ks) (sym h.taken) (second-counts p.node s) };
+      may = record { locked = locked; taken = subst (λ ks. 0 < count s ks) (sym h.taken) (in_pair_second p.node s) };
       parted = record {
         parting = record {
           live = h.live;
@@ -103,7 +102,7 @@ unlink_far v n p tag parted known passed =
     let x : Unlinking = far_unlinking p in
     let f : Front = far-front p in
     let w : View = link_set v q side child in
-    let here : unlinks_at q side (Some x) ≡ true = and_from (eqb q q) (same_side side side) (same-node q) (own-side side) in
+    let here : unlinks_at q side (Some x) ≡ true = and_from (eqb q q) (same_side side side) (same-node q) (same_side-refl side) in
     let others : held_slots (map (link_known_at q side child) v.held.nodes) ≡ kept_locks p
     = slots-stay (link_known_at q side child) (link-node q child side) v.held.nodes ∙ h.locked in
     let unset : w.update.unset ≡ [] = no-links w.update.unset (sets-rest v.update.unset f [] h.unset tt) in

@@ -13,6 +13,9 @@ use Rattle.index_words.specs.declared.word.Word.TheVariants.{Node, Entry}
 use Rattle.index_words.specs.Words.{same_word, same_part}
 use Rattle.key_map.specs.Lists.{count, Every}
 use Rattle.core_events.specs.Needs.{is_lock}
+use Rattle.core_invariant.proofs.Frames.{every_map}
+use Rattle.core_invariant.proofs.Joins.{every_append}
+use Rattle.core_invariant.proofs.Filled.{and_false}
 use Rattle.core_laws.specs.ViewNeeds.{MayFill}
 use Rattle.core_updates.specs.declared.plan.Plan.{Plan}
 use Rattle.core_updates.specs.declared.plan.Plan.TheVariants.{Grow, Replace, Lift, Join}
@@ -23,7 +26,6 @@ use Rattle.core_updates.specs.declared.plan.NewNode.{NewNode}
 use Rattle.core_updates.specs.PlanEvents.{HasSlots}
 use Rattle.core_updates.specs.Plans.{node_fills, entry_fills, fresh_to, head_of, child_of}
 use Rattle.plan_laws.specs.Fills.{AreApart, fresh_fills, next_fills, fills_of}
-use Rattle.plan_laws.proofs.Items.{every-both, every-to}
 
 abbrev pub WordApart : Filled → Filled → Type 0
 WordApart f g = same_word f.word g.word ≡ false
@@ -35,7 +37,7 @@ AllApart (f ∷ fs) = Every (WordApart f) fs × AllApart fs
 
 apart-append : (fs gs : List Filled) → AllApart fs → AllApart gs → Every (λ f. Every (WordApart f) gs) fs → AllApart (fs ++ gs)
 apart-append [] gs a b across = b
-apart-append (f ∷ fs) gs a b across = (every-both (WordApart f) fs gs a.0 across.0, apart-append fs gs a.1 b across.1)
+apart-append (f ∷ fs) gs a b across = (every_append (WordApart f) fs gs a.0 across.0, apart-append fs gs a.1 b across.1)
 
 -- a word of this node, but not its lock; a word of this entry
 pub record OfNode (k : ℕ) (f : Filled) : Type 0 where
@@ -47,10 +49,6 @@ pub record OfEntry (e : ℕ) (f : Filled) : Type 0 where
   pub part : Part
   pub is : f.word ≡ Entry part e
 
-and_false : (b : Bool) → (b && false) ≡ false
-and_false true = refl
-and_false false = refl
-
 entry-apart : (d e : ℕ) (f g : Filled) → ¬ (d ≡ e) → OfEntry d f → OfEntry e g → WordApart f g
 entry-apart d e f g apart a b =
     (λ i. same_word (a.is i) (b.is i)) ∙ ap (λ c. same_part a.part b.part && c) (ne_eqb d e apart) ∙ and_false (same_part a.part b.part)
@@ -60,16 +58,16 @@ node-apart k e f g a b = (λ i. same_word (a.is i) (b.is i))
 
 entries-apart : (d e : ℕ) (fs gs : List Filled) → ¬ (d ≡ e) → Every (OfEntry d) fs → Every (OfEntry e) gs → Every (λ f. Every (WordApart f) gs) fs
 entries-apart d e fs gs apart a b =
-    every-to (OfEntry d) (λ f. Every (WordApart f) gs) fs (λ f of. every-to (OfEntry e) (WordApart f) gs (λ g of'. entry-apart d e f g apart of of') b) a
+    every_map (OfEntry d) (λ f. Every (WordApart f) gs) fs (λ f of. every_map (OfEntry e) (WordApart f) gs (λ g of'. entry-apart d e f g apart of of') b) a
 
 nodes-apart : (k e : ℕ) (fs gs : List Filled) → Every (OfNode k) fs → Every (OfEntry e) gs → Every (λ f. Every (WordApart f) gs) fs
 nodes-apart k e fs gs a b =
-    every-to (OfNode k) (λ f. Every (WordApart f) gs) fs (λ f of. every-to (OfEntry e) (WordApart f) gs (λ g of'. node-apart k e f g of of') b) a
+    every_map (OfNode k) (λ f. Every (WordApart f) gs) fs (λ f of. every_map (OfEntry e) (WordApart f) gs (λ g of'. node-apart k e f g of of') b) a
 
 -- across to two groups
 across-both : (fs gs hs : List Filled) → Every (λ f. Every (WordApart f) gs) fs → Every (λ f. Every (WordApart f) hs) fs → Every (λ f. Every (WordApart f) (gs ++ hs)) fs
 across-both [] gs hs a b = tt
-across-both (f ∷ fs) gs hs a b = (every-both (WordApart f) gs hs a.0 b.0, across-both fs gs hs a.1 b.1)
+across-both (f ∷ fs) gs hs a b = (every_append (WordApart f) gs hs a.0 b.0, across-both fs gs hs a.1 b.1)
 
 -- the words of one entry
 record Group (e : ℕ) (fs : List Filled) : Type 0 where
@@ -169,12 +167,12 @@ groups-every : (P : Filled → Type 0) (slots : PlanSlots) (fs : List Filled) (g
     → ((e : ℕ) → (e ≡ slots.left) ⊎ ((e ≡ slots.right) ⊎ ((e ≡ slots.at) ⊎ (e ≡ slots.next))) → (f : Filled) → OfEntry e f → P f) → Every P fs
 groups-every P slots fs g node entry =
     subst (Every P) (sym g.is)
-    (every-both P (g.node ++ (g.left ++ g.right)) (g.at ++ g.next)
-    (every-both P g.node (g.left ++ g.right) (every-to (OfNode slots.node) P g.node node g.node_of.of)
-    (every-both P g.left g.right (every-to (OfEntry slots.left) P g.left (entry slots.left (inl refl)) g.left_of.of)
-    (every-to (OfEntry slots.right) P g.right (entry slots.right (inr (inl refl))) g.right_of.of)))
-    (every-both P g.at g.next (every-to (OfEntry slots.at) P g.at (entry slots.at (inr (inr (inl refl)))) g.at_of.of)
-    (every-to (OfEntry slots.next) P g.next (entry slots.next (inr (inr (inr refl)))) g.next_of.of)))
+    (every_append P (g.node ++ (g.left ++ g.right)) (g.at ++ g.next)
+    (every_append P g.node (g.left ++ g.right) (every_map (OfNode slots.node) P g.node node g.node_of.of)
+    (every_append P g.left g.right (every_map (OfEntry slots.left) P g.left (entry slots.left (inl refl)) g.left_of.of)
+    (every_map (OfEntry slots.right) P g.right (entry slots.right (inr (inl refl))) g.right_of.of)))
+    (every_append P g.at g.next (every_map (OfEntry slots.at) P g.at (entry slots.at (inr (inr (inl refl)))) g.at_of.of)
+    (every_map (OfEntry slots.next) P g.next (entry slots.next (inr (inr (inr refl)))) g.next_of.of)))
 
 groups-apart : (slots : PlanSlots) (fs : List Filled) → AreApart slots → Groups slots fs → AllApart fs
 groups-apart slots fs a g =
@@ -189,8 +187,8 @@ groups-apart slots fs a g =
     (entries-apart slots.right slots.next g.right g.next a.right_next g.right_of.of g.next_of.of) in
     subst AllApart (sym g.is)
     (apart-append (g.node ++ (g.left ++ g.right)) (g.at ++ g.next) new fronts
-    (every-both (λ f. Every (WordApart f) (g.at ++ g.next)) g.node (g.left ++ g.right) over-node
-    (every-both (λ f. Every (WordApart f) (g.at ++ g.next)) g.left g.right over-left over-right)))
+    (every_append (λ f. Every (WordApart f) (g.at ++ g.next)) g.node (g.left ++ g.right) over-node
+    (every_append (λ f. Every (WordApart f) (g.at ++ g.next)) g.left g.right over-left over-right)))
 
 -- the second front of a removal with two children
 next-group : (near : Bool) (p : JoinPlan) (slots : PlanSlots) (behind : ℕ)

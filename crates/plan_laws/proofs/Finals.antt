@@ -8,9 +8,10 @@ use Rattle.key_map.specs.Lists.{count, Every}
 use Rattle.key_map.proofs.Counting.{count-append}
 use Rattle.core_events.specs.LockMoves.{mark_known}
 use Rattle.core_events.specs.UpdateMoves.{without}
+use Rattle.core_invariant.proofs.Undone.{in_one}
 use Rattle.core_laws.proofs.ViewNeeds.{may_finalise_law, may_mark_law}
 use Rattle.core_updates.specs.declared.plan.Plan.{Plan}
-use Rattle.core_updates.specs.declared.plan.Plan.TheVariants.{Grow, Replace, Lift, Join}
+use Rattle.core_updates.specs.declared.plan.Plan.TheVariants.{Replace, Join}
 use Rattle.core_updates.specs.declared.plan.PlanSlots.{PlanSlots}
 use Rattle.core_updates.specs.Plans.{entries_in, entries_of, fresh_entries, fresh_listed, fresh_to, fronts_of, new_node_of, or_none, out_of}
 use Rattle.core_updates.specs.PlanEvents.{IsLockOf}
@@ -19,7 +20,7 @@ use Rattle.plan_laws.specs.Fills.{AreApart}
 use Rattle.plan_laws.specs.Raises.{FinaliseStepLaw, FinaliseEndLaw, MarkStartLaw, MarkStepLaw, MarkEndLaw}
 use Rattle.plan_laws.proofs.Items.{drop-got, got-every, got-counts, got-none, map-keeps, take-got, take-past}
 use Rattle.plan_laws.proofs.HeldMaps.{mark-node}
-use Rattle.plan_laws.proofs.Releases.{none-taken, every-by}
+use Rattle.plan_laws.proofs.Releases.{none-taken, every-by, none-here}
 
 -- four different numbers
 abbrev one : ℕ → ℕ → ℕ
@@ -91,13 +92,6 @@ count-drop k [] (suc n) = omega arith
 count-drop k (x ∷ xs) zero = omega arith
 count-drop k (x ∷ xs) (suc n) = omega (arith, count-drop k xs n)
 
-none-here : (x k n : ℕ) → cond (eqb x k) 1 0 + n ≡ 0 → (eqb x k ≡ false) × (n ≡ 0)
-none-here x k n e = (by (eqb x k) e, omega (arith, e))
-  where
-    by : (b : Bool) → cond b 1 0 + n ≡ 0 → b ≡ false
-    by true h = absurd (omega (arith, h))
-    by false h = refl
-
 without-none : (e : ℕ) (xs : List ℕ) → count e xs ≡ 0 → without e xs ≡ xs
 without-none e [] none' = refl
 without-none e (x ∷ xs) none' =
@@ -114,12 +108,6 @@ without-first e xs once =
     none-left : (m : ℕ) → cond (eqb e e) 1 0 + m ≤ 1 → m ≡ 0
     none-left m le = grind (arith, nat_tests)
 
-counted-first : (e : ℕ) (xs : List ℕ) → 0 < count e (e ∷ xs)
-counted-first e xs = counted (count e xs)
-  where
-    counted : (m : ℕ) → 0 < cond (eqb e e) 1 0 + m
-    counted m = grind (arith, nat_tests)
-
 pub finalise_step : FinaliseStepLaw
 finalise_step z v seat n plan slots place done entry h apart is =
     let xs = entries_in plan slots in
@@ -129,7 +117,7 @@ finalise_step z v seat n plan slots place done entry h apart is =
     record {
       may = may_finalise_law z v seat entry place (record {
         pending = subst (λ ys. 0 < count entry ys) (sym here)
-            (counted-first entry (drop (done + 1) xs));
+            (in_one entry (drop (done + 1) xs));
         raised = h.raised;
       });
       after = record {

@@ -11,7 +11,7 @@ use Rattle.core_events.specs.LockMoves.{locked_view, met_lock, mark_loaded, pair
 use Rattle.core_events.specs.PlainMoves.{link_loaded, link_moved, tag_loaded, tag_moved}
 use Rattle.plan_laws.specs.Frames.{KeepsTry, CountsGrow, StepsKeepLaw, KeepsPassLaw, KeepsTryLaw, KeepsOwnedLaw}
 use Rattle.plan_laws.proofs.Tries.{locked-keeps, met-keeps, mark-keeps-pass, link-keeps-pass, tag-keeps-pass, head-keeps-pass, number-keeps-pass, key-keeps-pass, val-keeps-pass}
-use Rattle.plan_laws.proofs.Fills.{fill-inside, filled-keeps-pass, filled-is}
+use Rattle.plan_laws.proofs.Tries.{fill-inside, filled-keeps-pass, filled-is}
 
 risen-le : (b : Bool) (n : ℕ) → n ≤ raised_if b n
 risen-le true n = by (n == 18446744073709551615)

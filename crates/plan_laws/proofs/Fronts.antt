@@ -16,22 +16,24 @@ use Rattle.key_map.proofs.Counting.{count-append}
 use Rattle.core_trees.specs.declared.link.Link.{Link}
 use Rattle.core_links.proofs.Compare.{compared, less, more, same}
 use Rattle.core_events.specs.UpdateMoves.{prepared, known_at}
-use Rattle.core_invariant.proofs.Without.{count-without_other}
+use Rattle.core_invariant.proofs.Passing.{count-without_other}
+use Rattle.core_invariant.proofs.Frames.{every_map}
 use Rattle.core_updates.specs.declared.plan.Plan.{Plan}
 use Rattle.core_updates.specs.declared.plan.PlanSlots.{PlanSlots}
 use Rattle.core_updates.specs.declared.plan.Heads.{Heads}
 use Rattle.core_updates.specs.declared.plan.Front.{Front}
 use Rattle.core_updates.specs.Held.{HoldsHead}
 use Rattle.core_laws.specs.ViewNeeds.{HasFilled}
+use Rattle.core_laws.proofs.TreeGaps.{every_front}
 use Rattle.core_updates.specs.PlanReady.{HoldsLook, HoldsFill, HoldsFront}
 use Rattle.core_updates.specs.Plans.{looks_of, front_of, fronts_of, entries_of, entry_fills, new_node_of, next_front_of}
 use Rattle.core_updates.proofs.PlanSteps.{events_law}
 use Rattle.plan_laws.specs.Fills.{AreApart, new_fills_of, front_fills, next_fills, fills_of}
 use Rattle.plan_laws.specs.Fronts.{behind_of, IsStillDue, HasPrepared, PrepareStartLaw, PrepareStepLaw, PrepareEndLaw}
-use Rattle.plan_laws.proofs.Items.{every-got, every-first, every-to, got-none, item-map, take-past, told}
+use Rattle.plan_laws.proofs.Items.{every-got, got-none, item-map, take-past, told}
 use Rattle.plan_laws.proofs.HeldMaps.{known-node, known-keeps, known-other, known-is}
 use Rattle.plan_laws.proofs.Kept.{MovesHeld, KeepsAt, links-kept, look-kept, mapped, numbered-kept, same-links, slots-kept}
-use Rattle.plan_laws.proofs.PlanFronts.{entry_at, front_is, front_head, front_filled, fronts_apart, new_node_holds, entries-more}
+use Rattle.plan_laws.proofs.PlanFronts.{entry_at, front_is, front_head, front_filled, fronts_apart, new_node_holds, entries-more, same-front}
 
 free-front : (v : View) (slots : PlanSlots) (place : ℕ) → 0 < count slots.at v.free.entries → 0 < count slots.next v.free.entries
     → 0 < count (entry_at slots place) v.free.entries
@@ -168,7 +170,7 @@ module _ (v : View) (n : ℕ) (plan : Plan) (slots : PlanSlots) (heads : Heads) 
 
   looks-now : Every (HoldsLook w) (looks_of plan)
   looks-now =
-      every-to (HoldsLook v) (HoldsLook w) (looks_of plan)
+      every_map (HoldsLook v) (HoldsLook w) (looks_of plan)
       (look-kept change v w moves (known-keeps f.at.node f.at.side stored v) (links-kept v w (same-links v w refl))) h.looks
 
   -- the link of another front is one of another node
@@ -206,9 +208,6 @@ module _ (v : View) (n : ℕ) (plan : Plan) (slots : PlanSlots) (heads : Heads) 
     leads = fill-kept v w (Entry Child f.entry) f.child refl front-fills.0;
   }
 
-  same-front : (a b : Front) → Some a ≡ Some b → a ≡ b
-  same-front a b e = cc
-
   fronts-now : (place : ℕ) (g : Front) → place < done + 1 → slice_get (fronts_of plan slots) place ≡ Some g → HoldsFront w g
   fronts-now place g below here = by (place == done) (told place done)
     where
@@ -240,7 +239,7 @@ module _ (v : View) (n : ℕ) (plan : Plan) (slots : PlanSlots) (heads : Heads) 
     looks = looks-now;
     due = due-now;
     fronts = fronts-now;
-    filled = every-to (HoldsFill v) (HoldsFill w) (fills_of plan slots heads) (λ x k. fill-kept v w x.word x.value refl k) h.filled;
+    filled = every_map (HoldsFill v) (HoldsFill w) (fills_of plan slots heads) (λ x k. fill-kept v w x.word x.value refl k) h.filled;
     pending = ap (λ es. es ++ f.entry ∷ []) h.pending ∙ sym (entries-more (fronts_of plan slots) done f is);
     node = h.node;
     left = subst (λ c. 0 < c) (sym (count-without_other slots.left f.entry v.free.entries (λ e. left-apart slots done apart (e ∙ entry-is)))) h.left;
@@ -270,7 +269,7 @@ prepare_end v n plan slots heads done h apart none' = record {
     looks = h.looks;
     apart = apart.left_right;
     new = new_node_holds v slots h.node h.left h.right plan
-        (every-first (HoldsFill v) (new_fills_of (new_node_of plan slots))
+        (every_front (HoldsFill v) (new_fills_of (new_node_of plan slots))
         (front_fills heads.at (front_of plan slots) ++ next_fills heads.next (next_front_of plan slots)) h.filled);
     fronts = every-got (HoldsFront v) (fronts_of plan slots)
         (λ place f is. h.fronts place f (omega (arith, slice_get_within (fronts_of plan slots) place f is, got-none (fronts_of plan slots) done none')) is);

@@ -1,6 +1,7 @@
 -- How each load under a lock, and a prepare, maps the locked nodes, and what it keeps.
 use Rattle.std.proofs.Common.{◌≡◌, ℕ, ◌<◌, Bool, true, false, cond, eqb, refl, ap, sym, ◌∙◌, subst, arith, Option, Some, None}
 use Rattle.std.proofs.lemmas.Bool.Decides.{nat_tests}
+use Rattle.std.proofs.lemmas.Bool.{eqb-true}
 use Rattle.index_words.specs.declared.side.Side.{Side}
 use Rattle.index_words.specs.declared.side.Side.TheVariants.{Left, Right}
 use Rattle.index_words.specs.declared.view.View.{View}
@@ -17,8 +18,7 @@ use Rattle.core_events.specs.UpdateNeeds.{is_written, side_of}
 use Rattle.core_updates.specs.Held.{HasLoaded}
 use Rattle.core_updates.specs.PlanEvents.{KnowsLink, KnowsTag}
 use Rattle.plan_laws.specs.Looks.{IsUnmarked}
-use Rattle.plan_laws.proofs.HeldParts.{SameParts, same_node, own_node, one-part, one-is, one-at, one-keeps}
-use Rattle.plan_laws.proofs.Kept.{KeepsAt, KeepsHeld, KnowsHead}
+use Rattle.plan_laws.proofs.Kept.{SameParts, own_node, one-part, one-is, one-at, one-keeps, KeepsAt, KeepsHeld, KnowsHead}
 
 -- a mark that is loaded, or set
 module _ (k x : ℕ) where
@@ -139,7 +139,7 @@ module _ (k e : ℕ) (side : Side) where
   -- the head that is found has the entry
   found-entry : (o : Option LoadedHead) → (l : LoadedHead) × (found_again e o ≡ Some l) × (l.entry ≡ e)
   found-entry None = (record { entry = e; stamp = None }, refl, refl)
-  found-entry (Some l) = by (eqb l.entry e) (λ t. same_node l.entry e t)
+  found-entry (Some l) = by (eqb l.entry e) (λ t. eqb-true l.entry e t)
     where
       by : (b : Bool) → (b ≡ true → l.entry ≡ e) → (m : LoadedHead) × (Some (cond b l (record { entry = e; stamp = None })) ≡ Some m) × (m.entry ≡ e)
       by true tells = (l, refl, tells refl)

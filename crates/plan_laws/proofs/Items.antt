@@ -62,22 +62,6 @@ got-every P [] i x all is = cc
 got-every P (y ∷ xs) zero x all is = let same : y ≡ x = cc in subst P same all.0
 got-every P (y ∷ xs) (suc i) x all is = got-every P xs i x all.1 is
 
-pub every-first : {X : Type 0} (P : X → Type 0) (xs ys : List X) → Every P (xs ++ ys) → Every P xs
-every-first P [] ys h = tt
-every-first P (x ∷ xs) ys h = (h.0, every-first P xs ys h.1)
-
-pub every-rest : {X : Type 0} (P : X → Type 0) (xs ys : List X) → Every P (xs ++ ys) → Every P ys
-every-rest P [] ys h = h
-every-rest P (x ∷ xs) ys h = every-rest P xs ys h.1
-
-pub every-both : {X : Type 0} (P : X → Type 0) (xs ys : List X) → Every P xs → Every P ys → Every P (xs ++ ys)
-every-both P [] ys h k = k
-every-both P (x ∷ xs) ys h k = (h.0, every-both P xs ys h.1 k)
-
-pub every-to : {X : Type 0} (P Q : X → Type 0) (xs : List X) → ((x : X) → P x → Q x) → Every P xs → Every Q xs
-every-to P Q [] f h = tt
-every-to P Q (x ∷ xs) f h = (f x h.0, every-to P Q xs f h.1)
-
 pub every-counted : (P : ℕ → Type 0) (xs : List ℕ) (x : ℕ) → Every P xs → 0 < count x xs → P x
 every-counted P [] x all some = absurd (omega (arith, some))
 every-counted P (y ∷ xs) x all some = by (eqb y x) refl (λ more. every-counted P xs x all.1 more) some

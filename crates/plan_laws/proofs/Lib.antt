@@ -1,27 +1,21 @@
 -- Items of lists.
 pub mod Items
--- What a view shows of its plan stays, in each step that does not touch it.
+-- What a try has found under its locks, and by its search, stays in steps that keep the locked nodes or parts of them.
 pub mod Kept
--- A change of what is known of one locked node.
-pub mod HeldParts
 -- How each load under a lock, and a prepare, maps the locked nodes, and what it keeps.
 pub mod HeldMaps
--- A try locks nodes.
+-- A try locks nodes that it has searched, and fills its slots.
 pub mod Tries
 -- The looks of a try.
 pub mod Looks
 -- The words that a plan fills are different ones.
 pub mod FillWords
--- A try fills its slots.
-pub mod Fills
--- The entries that a plan puts in front, and what is filled of each.
+-- The entries that a plan puts in front, what is filled of each, and the raise of the plan.
 pub mod PlanFronts
 -- A try puts its entries in front.
 pub mod Fronts
 -- A pass gives its locks back, and leaves its section.
 pub mod Releases
--- The raise of a plan.
-pub mod Raises
 pub mod Prunes
 -- The plain links are set.
 pub mod PlainLinks

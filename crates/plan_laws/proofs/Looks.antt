@@ -9,7 +9,7 @@ use Rattle.index_words.specs.declared.view.reading.Link.{Link as ViewLink}
 use Rattle.index_words.specs.declared.view.reading.LinkSource.{LinkSource}
 use Rattle.index_words.specs.declared.view.reading.LinkSource.TheVariants.{Bundle, Plain}
 use Rattle.index_words.specs.declared.view.reading.Place.{Place}
-use Rattle.index_words.specs.declared.view.reading.Place.TheVariants.{Nowhere, Entry as AtEntry, Node as AtNode, Gap}
+use Rattle.index_words.specs.declared.view.reading.Place.TheVariants.{Entry as AtEntry}
 use Rattle.index_words.specs.declared.view.update.HeldNode.{HeldNode}
 use Rattle.index_words.specs.declared.word.Field.TheVariants.{Key, Val}
 use Rattle.index_words.specs.Words.{same_side}
@@ -30,8 +30,7 @@ use Rattle.core_updates.specs.declared.plan.Plan.TheVariants.{Grow}
 use Rattle.core_updates.specs.declared.plan.PlanSlots.{PlanSlots}
 use Rattle.core_updates.specs.PlanEvents.{AllowsPlan, HoldsEntry, HoldsNumbered}
 use Rattle.core_updates.specs.Plans.{link_of}
-use Rattle.core_updates.proofs.HeldOnce.{held-item}
-use Rattle.core_updates.proofs.PlanSteps.{events_law}
+use Rattle.core_updates.proofs.PlanSteps.{held-item, events_law}
 use Rattle.plan_laws.specs.Tries.{IsTrying}
 use Rattle.plan_laws.specs.Looks.{IsUnmarked, KeepsLooks, LookLaw, NumberLaw, HeadsStayLaw, StepsKeepLooksLaw, KeepsLooksLaw}
 use Rattle.plan_laws.proofs.HeldMaps.{mark-node, mark-keeps, mark-is, number-at, number-keeps, numbered-side, is-written, found-other, found-node, found-mark, found-keeps, found-is, key-node, val-node, key-keeps, val-keeps, key-is, val-is, link-node, link-mark, link-keeps, link-is, tag-node, tag-mark, tag-link, tag-keeps, tag-is}

@@ -20,9 +20,10 @@ use Rattle.core_events.specs.PlainMoves.{link_known, link_known_at}
 use Rattle.core_events.specs.PlainNeeds.{sets_others}
 use Rattle.core_events.specs.UpdateNeeds.{held_at, side_of}
 use Rattle.core_events.specs.Waits.{keeps_lock}
+use Rattle.core_invariant.proofs.Sides.{same_side-refl}
 use Rattle.core_laws.specs.ViewNeeds.{IsKnownMarked}
 use Rattle.core_updates.specs.SetLinks.{SetLink, set_of, nulls_of}
-use Rattle.plan_laws.proofs.PlainLinks.{same-node, own-side}
+use Rattle.plan_laws.proofs.PlainLinks.{same-node}
 use Rattle.plan_laws.proofs.Releases.{every-by}
 
 pub some-is : (x h : HeldNode) → Some x ≡ Some h → x ≡ h
@@ -114,7 +115,7 @@ one-link s (u ∷ []) e =
     let same : set_of u ≡ s = cc in
     ap (λ b. not b || false)
     (subst (λ (t : SetLink). (eqb t.at.node s.at.node && same_side t.at.side s.at.side) ≡ true) (sym same)
-    (and_from (eqb s.at.node s.at.node) (same_side s.at.side s.at.side) (same-node s.at.node) (own-side s.at.side)))
+    (and_from (eqb s.at.node s.at.node) (same_side s.at.side s.at.side) (same-node s.at.node) (same_side-refl s.at.side)))
 one-link s _ e = cc
 
 pub none-set : (s : SetLink) (k : ℕ) (us : List UnsetLink) → map set_of us ≡ s ∷ [] → eqb s.at.node k ≡ false

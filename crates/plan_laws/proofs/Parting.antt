@@ -14,7 +14,7 @@ use Rattle.index_words.specs.Views.{no_update}
 use Rattle.index_words.specs.Words.{same_side}
 use Rattle.key_map.specs.Lists.{count, has, Every}
 use Rattle.core_grace.specs.Holds.{held_slots}
-use Rattle.core_grace.specs.Sections.{is_even, left_word}
+use Rattle.core_grace.proofs.Parity.{even_left}
 use Rattle.core_events.specs.LockMoves.{mark_known, other_nodes, unlocked_view}
 use Rattle.core_events.specs.Needs.{is_successor}
 use Rattle.core_events.specs.PlainMoves.{link_known_at, tag_known_at, link_set, still_unlinking}
@@ -29,7 +29,7 @@ use Rattle.core_updates.specs.declared.plan.PlanSlots.{PlanSlots}
 use Rattle.core_updates.specs.Plans.{locks_of, fronts_of, or_none, sets_of, set_by, unlinks_of}
 use Rattle.core_updates.specs.SetLinks.{set_of, nulls_of}
 use Rattle.plan_laws.specs.Parting.{copy_set, far_set, far_unlinking, kept_locks, far_locks, IsFar, IsParting, StartPartingLaw, LinkCopyLaw, LoadFarTagLaw, UnlockUpperLaw, LeavePartedLaw, LookPartedLaw}
-use Rattle.core_updates.proofs.HeldOnce.{held-item}
+use Rattle.core_updates.proofs.PlanSteps.{held-item}
 use Rattle.plan_laws.proofs.HeldMaps.{mark-node, link-node, link-mark, tag-node, tag-mark, tag-is}
 use Rattle.plan_laws.proofs.Items.{map-keeps}
 use Rattle.plan_laws.proofs.Kept.{found-at, held-maps}
@@ -279,9 +279,6 @@ waits even v n p h =
     taken-second : (a b : ℕ) → has b (a ∷ b ∷ []) ≡ true
     taken-second a b = grind (arith, nat_tests)
 
-left_even : (x : ℕ) → is_even x ≡ false → is_even (left_word x) ≡ true
-left_even x odd = grind (arith, nat_tests)
-
 pub leave_parted : LeavePartedLaw
 leave_parted v n p tag parted =
     let h = parted.parting in
@@ -291,7 +288,7 @@ leave_parted v n p tag parted =
         parting = record {
           live = h.live;
           own = h.own;
-          word = left_even v.section_word h.word;
+          word = even_left v.section_word h.word;
           once = h.once;
           locked = h.locked;
           raised = h.raised;

@@ -24,8 +24,10 @@ use Rattle.core_events.specs.PlainMoves.{tag_known, tag_loaded, link_known_at, t
 use Rattle.core_events.specs.PlainNeeds.{is_link_of, is_owed_at, sets_to, sets_others, unlinks_at, owes}
 use Rattle.core_events.specs.UpdateNeeds.{held_at, side_of}
 use Rattle.core_invariant.specs.Readers.{IsLocked}
+use Rattle.core_invariant.proofs.Sides.{same_side-refl}
+use Rattle.core_invariant.proofs.Undone.{or_left}
 use Rattle.core_updates.specs.declared.plan.Plan.{Plan}
-use Rattle.core_updates.specs.declared.plan.Plan.TheVariants.{Grow, Replace, Lift, Join}
+use Rattle.core_updates.specs.declared.plan.Plan.TheVariants.{Grow, Join}
 use Rattle.core_updates.specs.declared.plan.PlanSlots.{PlanSlots}
 use Rattle.core_updates.specs.declared.plan.Front.{Front}
 use Rattle.core_updates.specs.Plans.{change_of, front_of, locks_of, or_none, sets_of, set_by}
@@ -52,13 +54,6 @@ module _ (f : HeldNode → HeldNode) (node : (h : HeldNode) → (f h).node ≡ h
 pub same-node : (a : ℕ) → eqb a a ≡ true
 same-node a = grind (arith, nat_tests)
 
-pub own-side : (s : Side) → same_side s s ≡ true
-own-side Left = refl
-own-side Right = refl
-
-or-first : (a b : Bool) → a ≡ true → (a || b) ≡ true
-or-first a b is = ap (λ c. c || b) is
-
 -- the links of other nodes
 abbrev AreOthers : ℕ → List SetLink → Type 0
 AreOthers k ss = Every (λ (s : SetLink). eqb s.at.node k ≡ false) ss
@@ -67,13 +62,13 @@ AreOthers k ss = Every (λ (s : SetLink). eqb s.at.node k ≡ false) ss
 is-link : (u : UnsetLink) (f : Front) → set_of u ≡ set_by f → is_link_of f.at.node f.at.side u ≡ true
 is-link u f e =
     subst (λ (s : SetLink). (eqb s.at.node f.at.node && same_side s.at.side f.at.side) ≡ true) (sym e)
-    (and_from (eqb f.at.node f.at.node) (same_side f.at.side f.at.side) (same-node f.at.node) (own-side f.at.side))
+    (and_from (eqb f.at.node f.at.node) (same_side f.at.side f.at.side) (same-node f.at.node) (same_side-refl f.at.side))
 
 pub sets-first : (us : List UnsetLink) (f : Front) (rest : List SetLink) → map set_of us ≡ set_by f ∷ rest → sets_to f.at.node f.at.side f.child us ≡ true
 sets-first [] f rest e = cc
 sets-first (u ∷ us) f rest e =
     let same : set_of u ≡ set_by f = cc in
-    or-first (is_link_of f.at.node f.at.side u && eqb u.child f.child) (sets_to f.at.node f.at.side f.child us)
+    or_left (is_link_of f.at.node f.at.side u && eqb u.child f.child) (sets_to f.at.node f.at.side f.child us)
     (and_from (is_link_of f.at.node f.at.side u) (eqb u.child f.child) (is-link u f same) (eq-eqb u.child f.child (ap (λ (s : SetLink). s.child) same)))
 
 others-stay : (k : ℕ) (side : Side) (us : List UnsetLink) → AreOthers k (map set_of us) → other_links k side us ≡ us
@@ -155,11 +150,11 @@ owed-pass (Put val) f rest is = refl
 owed-pass Remove f rest is = ap (λ b. cond b (record { node = f.at.node; side = f.at.side } ∷ nulls_of rest) (nulls_of rest)) is
 
 own-tag : (k : ℕ) (side : Side) → is_owed_at k side (record { node = k; side = side }) ≡ true
-own-tag k side = and_from (eqb k k) (same_side side side) (same-node k) (own-side side)
+own-tag k side = and_from (eqb k k) (same_side side side) (same-node k) (same_side-refl side)
 
 pub owes-first : (k : ℕ) (side : Side) (os rest : List OwedTag) → os ≡ record { node = k; side = side } ∷ rest → owes k side os ≡ true
 owes-first k side os rest is =
-    ap (owes k side) is ∙ or-first (is_owed_at k side (record { node = k; side = side })) (owes k side rest) (own-tag k side)
+    ap (owes k side) is ∙ or_left (is_owed_at k side (record { node = k; side = side })) (owes k side rest) (own-tag k side)
 
 pub tags-rest : (k : ℕ) (side : Side) (os rest : List OwedTag) → os ≡ record { node = k; side = side } ∷ rest → other_tags k side rest ≡ rest
     → other_tags k side os ≡ rest

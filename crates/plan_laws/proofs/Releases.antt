@@ -11,7 +11,7 @@ use Rattle.index_words.specs.declared.view.update.Updating.{Updating}
 use Rattle.index_words.specs.Views.{no_update}
 use Rattle.key_map.specs.Lists.{count, Every}
 use Rattle.core_grace.specs.Holds.{held_slots}
-use Rattle.core_grace.specs.Sections.{is_even, left_word}
+use Rattle.core_grace.proofs.Parity.{even_left}
 use Rattle.core_events.specs.LockMoves.{unlocked_view, other_nodes, update_until}
 use Rattle.core_events.specs.Needs.{is_successor}
 use Rattle.core_events.specs.PlainNeeds.{is_done_at}
@@ -40,7 +40,7 @@ give_up v n nodes t = record {
 own_node : (a : ℕ) → eqb a a ≡ true
 own_node a = grind (arith, nat_tests)
 
-none-here : (x k n : ℕ) → cond (eqb x k) 1 0 + n ≡ 0 → (eqb x k ≡ false) × (n ≡ 0)
+pub none-here : (x k n : ℕ) → cond (eqb x k) 1 0 + n ≡ 0 → (eqb x k ≡ false) × (n ≡ 0)
 none-here x k n e = (by (eqb x k) e, omega (arith, e))
   where
     by : (b : Bool) → cond b 1 0 + n ≡ 0 → b ≡ false
@@ -140,9 +140,6 @@ unlock_step even z v seat n node rest r =
     last : (k m : ℕ) → cond (eqb k k) 1 0 + m ≤ 1 → m ≡ 0
     last k m le = grind (arith, nat_tests)
 
-left_even : (x : ℕ) → is_even x ≡ false → is_even (left_word x) ≡ true
-left_even x odd = grind (arith, nat_tests)
-
 pub leave_step : LeaveStepLaw
 leave_step z v seat n r =
     let bare : v.held.nodes ≡ [] = no-node v.held.nodes r.locked in
@@ -151,7 +148,7 @@ leave_step z v seat n r =
       has_left = record {
         live = r.live;
         own = r.own;
-        outside = left_even v.section_word r.word;
+        outside = even_left v.section_word r.word;
         reading = refl;
         unlocked = bare;
         update = ap (λ (u : Updating). record u { added = None }) (r.ended refl);

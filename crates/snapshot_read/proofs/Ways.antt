@@ -13,7 +13,7 @@ use Rattle.core_grace.specs.Holds.{tree_slots}
 use Rattle.core_grace.proofs.RuleMoves.{every_weaker}
 use Rattle.core_events.specs.Versions.{slots_of, top_slot, tree_nodes}
 use Rattle.core_invariant.proofs.Frames.{count-middle}
-use Rattle.core_invariant.proofs.TreeNodes.{tree_slots-append}
+use Rattle.core_invariant.proofs.TreeNow.{tree_slots-append}
 use Rattle.core_trees.specs.NamedTree.{NamedTree, Null, Branch, IsWithin}
 use Rattle.core_trees.specs.Search.{search_from}
 use Rattle.core_trees.proofs.StepLaws.{search_contents}

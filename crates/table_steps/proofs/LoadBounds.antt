@@ -29,10 +29,9 @@ use Rattle.core_invariant.specs.Rule.{Rule, IsRight}
 use Rattle.core_invariant.specs.SeatRule.{SeatRight}
 use Rattle.core_invariant.proofs.AtEntries.{chain_behind}
 use Rattle.core_invariant.proofs.Frames.{Term, term_of, same_item}
-use Rattle.core_invariant.proofs.LiveHeads.{chain_head}
+use Rattle.core_invariant.proofs.Owned.{chain_head, entry_there, in_entries, reachable_live, slot_is}
 use Rattle.core_invariant.proofs.Needed.{reach_is}
 use Rattle.core_invariant.proofs.OneView.{seat_at}
-use Rattle.core_invariant.proofs.Owned.{entry_there, in_entries, reachable_live, slot_is}
 use Rattle.core_laws.specs.Found.{child_on, LeadsTo, ReadsTree}
 use Rattle.core_laws.specs.ViewNeeds.{IsInReach, IsAtEntry, MayReadNext}
 use Rattle.core_laws.proofs.Found.{read_law}

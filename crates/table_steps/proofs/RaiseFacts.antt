@@ -30,7 +30,7 @@ use Rattle.core_invariant.specs.Meanings.{Meaning}
 use Rattle.core_invariant.specs.Rule.{InRule}
 use Rattle.core_invariant.specs.SeatRule.{SeatRight}
 use Rattle.core_invariant.proofs.Frames.{one_counted}
-use Rattle.core_invariant.proofs.HeldFacts.{held_holds}
+use Rattle.core_invariant.proofs.Locked.{held_holds}
 use Rattle.core_invariant.proofs.OneView.{seat_at}
 use Rattle.core_invariant.proofs.Owned.{entry_there, held_live}
 use Rattle.core_invariant.proofs.TreeNow.{entries_are}

@@ -22,12 +22,10 @@ use Rattle.core_invariant.specs.Reached.{plain_graph, ReachesRight}
 use Rattle.core_invariant.specs.Readers.{IsLocked}
 use Rattle.core_invariant.specs.SeatRule.{SeatRight}
 use Rattle.core_invariant.proofs.Frames.{every_at, one_counted}
-use Rattle.core_invariant.proofs.HeldFacts.{work_holds}
-use Rattle.core_invariant.proofs.LiveHeads.{chain_head}
-use Rattle.core_invariant.proofs.LockReach.{searched}
+use Rattle.core_invariant.proofs.Locked.{work_holds, searched}
+use Rattle.core_invariant.proofs.Owned.{chain_head, entry_there, free_entry_some, held_live, in_entries, once_node, once_entry, slot_high}
 use Rattle.core_invariant.proofs.OneView.{seat_at}
-use Rattle.core_invariant.proofs.Owned.{entry_there, free_entry_some, held_live, in_entries, once_node, once_entry, slot_high}
-use Rattle.core_invariant.proofs.Without.{count-without_same, count-without-le}
+use Rattle.core_invariant.proofs.Passing.{count-without_same, count-without-le}
 use Rattle.core_laws.specs.ViewNeeds.{IsInside, IsSearched}
 use Rattle.table_rule.specs.Homes.{IsLiveView}
 use Rattle.table_rule.specs.Running.{Stands}

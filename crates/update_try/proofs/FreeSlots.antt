@@ -7,7 +7,7 @@ use Rattle.key_map.specs.Lists.{count}
 use Rattle.core_updates.specs.declared.plan.PlanSlots.{PlanSlots}
 use Rattle.core_updates.specs.PlanEvents.{HasSlots}
 use Rattle.plan_laws.specs.Fills.{AreApart}
-use Rattle.plan_laws.proofs.Fills.{slots_some}
+use Rattle.plan_laws.proofs.Tries.{slots_some}
 use Rattle.plan_laws.proofs.Items.{got-counts, got-none}
 use Rattle.table_rule.specs.Homes.{IsLiveView}
 use Rattle.table_rule.specs.Running.{table}

@@ -15,7 +15,7 @@ use Rattle.core_updates.specs.declared.plan.Front.{Front}
 use Rattle.core_updates.specs.declared.plan.Heads.{Heads}
 use Rattle.core_updates.specs.PlanReady.{HoldsFill}
 use Rattle.core_updates.specs.Plans.{front_of, fronts_of, next_front_of, or_none}
-use Rattle.core_updates.proofs.HeldOnce.{held_once}
+use Rattle.core_updates.proofs.PlanSteps.{held_once}
 use Rattle.plan_laws.specs.Answers.{owned_entries}
 use Rattle.plan_laws.specs.Fills.{AreApart}
 use Rattle.plan_laws.specs.Frames.{KeepsPass}

@@ -11,8 +11,7 @@ use Rattle.core_events.specs.LockMoves.{just_locked, locked_view, mark_known, ma
 use Rattle.core_events.specs.PlainMoves.{link_known, link_known_at, link_loaded, tag_known}
 use Rattle.core_events.specs.UpdateNeeds.{held_at, side_of}
 use Rattle.core_updates.specs.Plans.{link_of}
-use Rattle.plan_laws.proofs.HeldParts.{one-part}
-use Rattle.plan_laws.proofs.Kept.{found-at}
+use Rattle.plan_laws.proofs.Kept.{one-part, found-at}
 use Rattle.update_try.specs.Looking.{LearnsAt, LearnsNothing}
 
 -- where a node is found among mapped ones, it was found before

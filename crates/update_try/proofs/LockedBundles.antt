@@ -25,7 +25,7 @@ use Rattle.core_invariant.specs.Locks.{HeadRight, IsNodeAt, IsNextAt}
 use Rattle.core_invariant.specs.Meanings.{Meaning}
 use Rattle.core_invariant.specs.Readers.{IsLocked}
 use Rattle.core_invariant.specs.SeatRule.{SeatRight}
-use Rattle.core_invariant.proofs.HeldFacts.{held_holds, count-locks}
+use Rattle.core_invariant.proofs.Locked.{held_holds, count-locks}
 use Rattle.core_invariant.proofs.OneView.{seat_at}
 use Rattle.core_invariant.proofs.Owned.{held_live}
 use Rattle.core_laws.specs.ViewNeeds.{MayReadNext}
@@ -35,7 +35,7 @@ use Rattle.core_laws.proofs.Remembered.{every_item}
 use Rattle.core_laws.proofs.Searching.{head_numbered_law}
 use Rattle.core_updates.specs.Held.{HoldsHead}
 use Rattle.core_updates.specs.PlanEvents.{HoldsEntry}
-use Rattle.core_updates.proofs.HeldOnce.{held_once}
+use Rattle.core_updates.proofs.PlanSteps.{held_once}
 use Rattle.plan_laws.specs.Frames.{KeepsPass, KeepsTry}
 use Rattle.plan_laws.specs.Looks.{KeepsLooks}
 use Rattle.plan_laws.specs.Tries.{IsTrying, KeepsTrying}

@@ -22,7 +22,7 @@ use Rattle.plan_laws.specs.Answers.{AnswersRaise}
 use Rattle.plan_laws.specs.Raises.{HasFinalised, update_by, raised_at}
 use Rattle.plan_laws.proofs.Answered.{answer}
 use Rattle.plan_laws.proofs.Fronts.{prepare_end}
-use Rattle.plan_laws.proofs.Raises.{raise_step}
+use Rattle.plan_laws.proofs.PlanFronts.{raise_step}
 use Rattle.table_rule.specs.Running.{Happened, table}
 use Rattle.table_rule.proofs.Happens.{happened_view, happened_word}
 use Rattle.table_steps.specs.Passes.{Pass}

@@ -26,7 +26,7 @@ use Rattle.core_invariant.specs.Meanings.{Meaning}
 use Rattle.core_invariant.specs.Readers.{IsLocked}
 use Rattle.core_invariant.specs.Rule.{InRule}
 use Rattle.core_invariant.specs.SeatRule.{SeatRight}
-use Rattle.core_invariant.proofs.Apart.{in_one_bundle}
+use Rattle.core_invariant.proofs.Owned.{in_one_bundle}
 use Rattle.core_invariant.proofs.Frames.{one_counted}
 use Rattle.core_invariant.proofs.Locked.{still_linked}
 use Rattle.core_invariant.proofs.OneView.{seat_at}

@@ -1,4 +1,4 @@
-use Rattle.core_invariant.proofs.Longest.{longest_is}
+use Rattle.core_invariant.proofs.Passing.{longest_is}
 use Rattle.core_invariant.proofs.TreeNow.{tree_is}
 use Rattle.core_invariant.proofs.laws.what_the_rule_says.Goals as goal
 

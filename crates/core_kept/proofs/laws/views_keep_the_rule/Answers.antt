@@ -1,4 +1,4 @@
-use Rattle.core_invariant.proofs.SpentViews.{spent_after}
+use Rattle.core_invariant.proofs.KeptViews.{spent_after}
 use Rattle.core_kept.proofs.LinkedLast.{linking_after}
 use Rattle.core_kept.proofs.OwnPlaces.{places_after}
 use Rattle.core_kept.proofs.WaitingSlots.{waits_after}

@@ -1,14 +1,10 @@
 use Rattle.plain_trees.proofs.Settling.{set_law}
-use Rattle.plain_trees.proofs.Reaching.{reach_law, reached_in}
-use Rattle.plain_trees.proofs.Resting.{rest_law}
-use Rattle.plain_trees.proofs.Walks.{begin_law, walk_law}
-use Rattle.plain_trees.proofs.NullLinks.{null_link}
+use Rattle.plain_trees.proofs.Matched.{reach_law, reached_in, rest_law}
+use Rattle.plain_trees.proofs.NullLinks.{begin_law, walk_law, null_link}
 use Rattle.plain_trees.proofs.Stores.{store}
-use Rattle.plain_trees.proofs.Turns.{turn_law}
+use Rattle.plain_trees.proofs.TurnPaths.{turn_law, turns_here, turn_stays, store_turn}
 use Rattle.plain_trees.proofs.Belows.{below_law}
-use Rattle.plain_trees.proofs.TurnPaths.{turns_here, turn_stays, store_turn}
-use Rattle.plain_trees.proofs.Ahead.{ahead_law}
-use Rattle.plain_trees.proofs.Inserts.{insert}
+use Rattle.plain_trees.proofs.Inserts.{ahead_law, insert}
 use Rattle.plain_trees.proofs.Raises.{replace, remove}
 use Rattle.plain_trees.proofs.laws.plain_links_lead_to_the_gap.Goals as goal
 

@@ -1,5 +1,5 @@
 use Rattle.plan_laws.proofs.Finals.{finalise_step, finalise_end, mark_start, mark_step, mark_end}
-use Rattle.plan_laws.proofs.Raises.{raise_step}
+use Rattle.plan_laws.proofs.PlanFronts.{raise_step}
 use Rattle.plan_laws.proofs.end_laws.updates_raise.Goals as goal
 
 pub returns : goal.returns

@@ -1,4 +1,4 @@
-use Rattle.plan_laws.proofs.Fills.{fill, may_fill_on, slots_some}
+use Rattle.plan_laws.proofs.Tries.{fill, may_fill_on, slots_some}
 use Rattle.plan_laws.proofs.try_laws.tries_fill.Goals as goal
 
 pub returns : goal.returns

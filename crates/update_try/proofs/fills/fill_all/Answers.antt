@@ -5,7 +5,7 @@ use Rattle.core_updates.specs.declared.plan.NewNode.{NewNode}
 use Rattle.core_updates.specs.Plans.{front_of, new_node_of, next_front_of}
 use Rattle.plan_laws.specs.Fills.{HasFilledAll, filled_all, fills_of, front_fills, new_fills_of, next_fills}
 use Rattle.plan_laws.specs.Frames.{KeepsTry}
-use Rattle.plan_laws.proofs.Fills.{fill}
+use Rattle.plan_laws.proofs.Tries.{fill}
 use Rattle.update_try.proofs.FilledWords.{all-counts, all-held, all-keeps, filled-three}
 use Rattle.update_try.proofs.fills.fill_all.Goals as goal
 
