@@ -1,5 +1,5 @@
 -- Texts that are cut, and texts that are UTF-8.
-use Rattle.std.proofs.Common.{◌≡◌, ◌≢◌, ℕ, ◌+◌, ◌<◌, ◌≤◌, ◌^◌, Bool, true, false, List, [], ◌∷◌, length, take, drop, map, refl, ◌&&◌, ap, sym, ◌∙◌, Option, inl, inr, Result, Ok, Err, ◌||◌, get_or, arith, rules}
+use Rattle.std.proofs.Common.{◌≡◌, ◌≢◌, ℕ, ◌<◌, ◌≤◌, ◌^◌, Bool, true, false, List, [], ◌∷◌, length, refl, ◌&&◌, ap, sym, ◌∙◌, Option, inl, inr, Result, Ok, Err, ◌||◌, get_or, arith, rules}
 use Rattle.std.specs.List.{slice_split, position, position_or_len, before_first, after_first, list_all, list_any}
 use Rattle.std.specs.Prelude.{◌==◌, MatchOption, nat_lt, nat_le, not}
 use Rattle.std.specs.Result.{result_ok}

@@ -1,6 +1,6 @@
 -- Helper: the headline does not rest on this file.
 -- What a query says, as values for a listing of either version.
-use Rattle.std.specs.Prelude.{ℕ, Bool, false, List, [], Result, Ok, Err, codes}
+use Rattle.std.specs.Prelude.{ℕ, false, List, [], Result, Ok, Err, codes}
 use Rattle.std.specs.List.{slice_split, find}
 use Rattle.std.specs.Option.{option_map_or}
 use Rattle.std.specs.Str.{bytes_eq}
