@@ -8,8 +8,7 @@ use Rattle.line_grammar.specs.declared.cause.Cause.TheVariants.{NoClient, TooMan
 use Rattle.line_grammar.specs.declared.command.Command.TheVariants as says
 use Rattle.line_grammar.specs.declared.verb.PutWhen.TheVariants.{Always, IfAbsent}
 use Rattle.line_grammar.specs.Line.{reading_of}
-use Rattle.request_lines.specs.declared.{session.Asked.Asked}
-use Rattle.request_lines.specs.declared.{session.Session.Session, session_error.InputError.InputError}
+use Rattle.request_lines.specs.declared.{session.Asked.Asked, session.Session.Session, session_error.InputError.InputError}
 
 -- the most bytes of an input: 64 MiB
 abbrev pub most_input_bytes : ℕ
