@@ -103,7 +103,7 @@ def history():
 # and of checks are not in the picture.
 PARTS = [
     ("HasRead, IsTaken", ["the word run; the bytes", "read, and those written"], ["command_words", "outside_io"]),
-    ("IsSessionOf", ["the session that", "the input's text says"], ["request_lines"]),
+    ("IsSessionOf", ["the session that", "the input's text says"], ["request_lines", "line_grammar"]),
     ("IsLegal", ["one journal; each answer", "right at its place"], ["bucket_terms", "key_map", "key_names"]),
     ("session_text", ["its lines of JSON,", "byte for byte"], ["answer_text"]),
 ]

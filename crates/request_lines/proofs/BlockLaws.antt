@@ -1,4 +1,4 @@
--- Lines that are cut into blocks.
+-- Texts that are cut into lines, and lines that are cut into blocks.
 use Rattle.std.proofs.Common.{◌≡◌, ℕ, ◌+◌, ◌^◌, ◌<◌, ◌≤◌, Bool, true, List, [], ◌∷◌, ◌++◌, length, take, drop, map, get_or, Option, Some, refl, sym, ap, subst, ◌∙◌, append_assoc, inl, inr, arith}
 use Rattle.std.specs.Prelude.{◌==◌}
 use Rattle.std.specs.Borrow.{Bor}
@@ -9,10 +9,21 @@ use Rattle.std.proofs.lemmas.List.{take-append-drop, drop_more, get_or-drop, len
 use Rattle.std.proofs.lemmas.List.Sums.{passes_at_first, count_by-le-length}
 use Rattle.std.proofs.lemmas.List.Splits.{slice_split-cons_yes, slice_split-cons_no, length-slice_split}
 use Rattle.std.specs.Str.Lines.{strip_carriage_return}
+use Rattle.line_grammar.proofs.TextLaws.{cut_at_first, not_cut}
 use Rattle.request_lines.specs.Input.{most_input_bytes}
-use Rattle.request_lines.specs.InputParts.{texts_of}
-use Rattle.request_lines.specs.Left.{texts_left}
+use Rattle.request_lines.specs.InputParts.{texts_of, texts_left}
 use Rattle.request_lines.specs.Said.{texts_in}
+
+-- the lines of bytes that have a line feed, and of bytes that have none
+pub texts_cut : (bytes : List ℕ) (end : ℕ) (front back text : List ℕ) → position_or_len (λ b. b == 10) bytes ≡ end → end < length bytes
+    → front ≡ take end bytes → back ≡ drop (end + 1) bytes → text ≡ strip_carriage_return front → texts_of bytes ≡ text ∷ texts_of back
+texts_cut bytes end front back text place inside is_front is_back is_text =
+    let cut = cut_at_first (λ b. b == 10) bytes front back (omega arith) (rw place is_front) (rw place is_back) in
+    ap (map strip_carriage_return) cut ∙ ap (λ first. first ∷ texts_of back) (sym is_text)
+
+pub texts_whole : (bytes text : List ℕ) → position_or_len (λ b. b == 10) bytes ≡ length bytes → text ≡ strip_carriage_return bytes → texts_of bytes ≡ text ∷ []
+texts_whole bytes text none is_text =
+    ap (map strip_carriage_return) (not_cut (λ b. b == 10) bytes none) ∙ ap (λ first. first ∷ []) (sym is_text)
 
 -- a list that is cut has a part
 onto_append : (x : ℕ) (parts more : List (List ℕ)) → 0 < length parts → onto_first x (parts ++ more) ≡ onto_first x parts ++ more

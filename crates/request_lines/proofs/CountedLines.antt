@@ -3,8 +3,8 @@ use Rattle.std.proofs.Common.{◌≡◌, ℕ, ◌+◌, List, [], ◌∷◌, leng
 use Rattle.std.specs.Prelude.{◌==◌, slice_get, if◌then◌else◌}
 use Rattle.std.specs.List.{slice_split, filter_map}
 use Rattle.bucket_terms.specs.declared.record.Record.{Record}
-use Rattle.request_lines.specs.declared.cause.Cause.{Cause}
-use Rattle.request_lines.specs.declared.command.Command.{Command}
+use Rattle.line_grammar.specs.declared.cause.Cause.{Cause}
+use Rattle.line_grammar.specs.declared.command.Command.{Command}
 use Rattle.request_lines.specs.declared.counts.Counts.{Counts}
 use Rattle.request_lines.specs.declared.session.Asked.{Asked}
 use Rattle.request_lines.specs.declared.session.ClientPart.{ClientPart}
@@ -13,7 +13,8 @@ use Rattle.request_lines.specs.declared.session_error.InputError.{InputError}
 use Rattle.request_lines.specs.declared.session_error.SessionError.{SessionError}
 use Rattle.request_lines.specs.declared.session_error.SessionError.TheVariants as errors
 use Rattle.request_lines.specs.InputParts.{texts_of, error_at, asked_at, begins_client}
-use Rattle.request_lines.specs.Input.{reading_of, name_by, record_by}
+use Rattle.line_grammar.specs.Line.{reading_of}
+use Rattle.request_lines.specs.Input.{name_by, record_by}
 use Rattle.request_lines.specs.Counting.{none_counted, counted_with, cause_by_counts, request_by_counts}
 
 -- a line that is not empty: its number, counted from 1 over all lines, what it says or its own cause, and

@@ -10,19 +10,19 @@ use Rattle.std.proofs.lemmas.Bool.{cases_Bool}
 use Rattle.std.proofs.lemmas.Bool.Decides.{nat_tests}
 use Rattle.std.proofs.lemmas.List.{append-nil}
 use Rattle.std.proofs.lemmas.List.Splits.{slice_split-cons_yes, slice_split-cons_no}
-use Rattle.request_lines.specs.declared.cause.Cause.{Cause}
-use Rattle.request_lines.specs.declared.command.Command.{Command}
-use Rattle.request_lines.specs.declared.command.Command.TheVariants as says
+use Rattle.line_grammar.specs.declared.cause.Cause.{Cause}
+use Rattle.line_grammar.specs.declared.command.Command.{Command}
+use Rattle.line_grammar.specs.declared.command.Command.TheVariants as says
 use Rattle.request_lines.specs.declared.counts.Counts.{Counts}
 use Rattle.request_lines.specs.declared.session.Asked.{Asked}
 use Rattle.request_lines.specs.declared.session.ClientPart.{ClientPart}
 use Rattle.request_lines.specs.declared.session.Session.{Session}
 use Rattle.request_lines.specs.declared.session_error.InputError.{InputError}
-use Rattle.request_lines.specs.InputParts.{texts_of, error_at, begins_client}
-use Rattle.request_lines.specs.Input.{reading_of, name_by, record_by}
+use Rattle.request_lines.specs.InputParts.{texts_of, error_at, begins_client, texts_left}
+use Rattle.line_grammar.specs.Line.{reading_of}
+use Rattle.request_lines.specs.Input.{name_by, record_by}
 use Rattle.request_lines.specs.Counting.{counted_with, cause_by_counts}
 use Rattle.request_lines.proofs.CountedLines.{Line, lines_from, input_lines, error_of, refusal_of, asked_of, part_of, parts_of, names_of, records_of, IsSessionOf, IsRefused}
-use Rattle.request_lines.specs.Left.{texts_left}
 use Rattle.request_lines.specs.Reading.{Progress, Takes, no_progress, all_ended, ended_by, current_by, kept, taken, error_of_text, Reaches, Meets, TakesAll}
 
 -- the parts of all clients, with the lines that are left, cut at each line that begins a client

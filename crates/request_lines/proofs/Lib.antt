@@ -1,13 +1,3 @@
-pub mod FirstByte
-pub mod AskedAll
-pub mod ByNames
-pub mod QueryCauses
-pub mod QueryLaws
-pub mod QueryListings
-pub mod TextLaws
-pub mod ShortNumbers
-pub mod TagBytes
-pub mod Fine
 pub mod CountedLines
 pub mod LineCounts
 pub mod NameCounts
@@ -20,7 +10,6 @@ pub mod CheckInputs
 pub mod Rising
 pub mod Sound
 pub mod SoundLines
-pub mod PieceLaws
 pub mod SampleQueries
 pub mod SampleLines
 pub mod SampleWalk

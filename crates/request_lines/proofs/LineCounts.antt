@@ -2,21 +2,20 @@
 use Rattle.std.proofs.Common.{◌≡◌, ℕ, ◌+◌, Bool, true, false, List, [], ◌∷◌, ◌++◌, length, map, drop, Option, Result, Ok, Err, refl, ap, sym, ◌∙◌, append-nil, arith}
 use Rattle.std.specs.Prelude.{◌==◌, count_by, not, slice_get, if◌then◌else◌}
 use Rattle.std.specs.List.{slice_split, onto_first, filter_map, cons_option}
-use Rattle.request_lines.specs.declared.cause.Cause.{Cause}
-use Rattle.request_lines.specs.declared.command.Command.{Command}
-use Rattle.request_lines.specs.declared.command.Command.TheVariants as says
+use Rattle.line_grammar.specs.declared.cause.Cause.{Cause}
+use Rattle.line_grammar.specs.declared.command.Command.{Command}
+use Rattle.line_grammar.specs.declared.command.Command.TheVariants as says
 use Rattle.request_lines.specs.declared.counts.Counts.{Counts}
 use Rattle.request_lines.specs.declared.session.Session.{Session}
 use Rattle.request_lines.specs.declared.session_error.SessionError.{SessionError}
 use Rattle.request_lines.specs.declared.session_error.SessionError.TheVariants as errors
-use Rattle.request_lines.specs.InputParts.{texts_of, clients_in, requests_in, puts_in, said, begins_client}
-use Rattle.request_lines.specs.Input.{reading_of, is_client, is_put, entries_behind, limit_cause}
+use Rattle.request_lines.specs.InputParts.{texts_of, clients_in, requests_in, puts_in, said, begins_client, error_at}
+use Rattle.line_grammar.specs.Line.{reading_of}
+use Rattle.request_lines.specs.Input.{is_client, is_put, entries_behind, limit_cause, Line, name_by, record_by}
 use Rattle.std.proofs.lemmas.List.{drop-map}
 use Rattle.std.proofs.lemmas.List.Sums.{sum_by-append}
 use Rattle.request_lines.specs.Counting as k
 use Rattle.request_lines.specs.Counting.{counted, counted_with}
-use Rattle.request_lines.specs.Input.{Line, name_by, record_by}
-use Rattle.request_lines.specs.InputParts.{error_at}
 use Rattle.request_lines.specs.Input as i
 use Rattle.request_lines.specs.InputParts as p
 use Rattle.request_lines.specs.Refusal.{IsRefused}

@@ -15,15 +15,15 @@ use Rattle.std.proofs.lemmas.List.Folds.{list_all-append, list_any_none}
 use Rattle.std.proofs.lemmas.List.Splits.{slice_split_at, slice_split_none}
 use Rattle.std.proofs.lemmas.Str.{is_utf8-from_IsUtf8, IsUtf8-from_ascii}
 use Rattle.std.proofs.lemmas.Str.Parse.{IsNumeralModel, numerals_by_value, tells_all_ascii_digits}
-use Rattle.request_lines.specs.declared.command.Command.TheVariants as says
-use Rattle.request_lines.specs.declared.verb.PutWhen.TheVariants.{Always}
-use Rattle.request_lines.specs.InputParts.{fields_of}
-use Rattle.request_lines.specs.Texts.{key_read, is_number, is_small, numbers_read, etag_read, is_tag, is_tag_byte, unquoted}
-use Rattle.request_lines.specs.Input.{reading_of, read_line, read_fields, put_read}
+use Rattle.line_grammar.specs.declared.command.Command.TheVariants as says
+use Rattle.line_grammar.specs.declared.verb.PutWhen.TheVariants.{Always}
+use Rattle.line_grammar.specs.Left.{fields_of}
+use Rattle.line_grammar.specs.Texts.{key_read, is_number, is_small, numbers_read, etag_read, is_tag, is_tag_byte, unquoted}
+use Rattle.line_grammar.specs.Line.{reading_of, read_line, read_fields, put_read}
 use Rattle.request_lines.specs.Sample.{four_digits, sample_name}
 use Rattle.request_lines.specs.SampleSession.{sample_record}
 use Rattle.request_lines.proofs.SampleQueries.{query_text, list_line}
-use Rattle.request_lines.proofs.TextLaws.{digits_all, unescaped_plain}
+use Rattle.line_grammar.proofs.TextLaws.{digits_all, unescaped_plain}
 
 -- a byte that ends no line, cuts no field and begins no escape
 abbrev is_plain : ℕ → Bool

@@ -4,10 +4,9 @@ use Rattle.std.specs.Char.{encode_utf8}
 use Rattle.std.specs.Str.{is_utf8, chars}
 use Rattle.std.specs.Fmt.{decimal, digits}
 use Rattle.percent_encoding.specs.Percent.{percent_decode}
-use Rattle.request_lines.specs.declared.command.Command.TheVariants as says
-use Rattle.request_lines.specs.Texts.{unescaped, escapes_are_whole, is_number}
-use Rattle.request_lines.specs.Queries.{listing_read, parameters_read, without_mark, is_max_keys}
-use Rattle.request_lines.specs.Input.{reading_of, read_line, read_fields}
+use Rattle.line_grammar.specs.declared.command.Command.TheVariants as says
+use Rattle.line_grammar.specs.Texts.{unescaped, escapes_are_whole, is_number}
+use Rattle.line_grammar.specs.Line.{listing_read, parameters_read, without_mark, is_max_keys, reading_of, read_line, read_fields}
 use Rattle.request_lines.specs.SampleSession.{sample_query}
 
 -- the query of a listing, and its line without its end

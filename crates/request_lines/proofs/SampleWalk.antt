@@ -7,17 +7,18 @@ use Rattle.std.proofs.lemmas.Bool.{cases_Bool}
 use Rattle.std.proofs.lemmas.Bool.Decides.{nat_tests}
 use Rattle.std.proofs.lemmas.Fmt.{length-decimal-le}
 use Rattle.std.proofs.lemmas.List.Splits.{slice_split_at}
-use Rattle.request_lines.specs.declared.cause.Cause.{Cause}
-use Rattle.request_lines.specs.declared.cause.Cause.TheVariants.{NoClient, TooManyClients, TooManyLines, TooManyEntries}
-use Rattle.request_lines.specs.declared.command.Command.{Command}
-use Rattle.request_lines.specs.declared.command.Command.TheVariants as says
+use Rattle.line_grammar.specs.declared.cause.Cause.{Cause}
+use Rattle.line_grammar.specs.declared.cause.Cause.TheVariants.{NoClient, TooManyClients, TooManyLines, TooManyEntries}
+use Rattle.line_grammar.specs.declared.command.Command.{Command}
+use Rattle.line_grammar.specs.declared.command.Command.TheVariants as says
 use Rattle.request_lines.specs.declared.counts.Counts.{Counts}
 use Rattle.bucket_terms.specs.declared.record.Record.{Record}
 use Rattle.request_lines.specs.declared.session.Asked.{Asked}
 use Rattle.request_lines.specs.declared.session.ClientPart.{ClientPart}
-use Rattle.request_lines.specs.declared.verb.PutWhen.TheVariants.{Always}
+use Rattle.line_grammar.specs.declared.verb.PutWhen.TheVariants.{Always}
 use Rattle.request_lines.specs.InputParts.{texts_of}
-use Rattle.request_lines.specs.Input.{reading_of, read_line, read_fields, is_client, IsSessionOf}
+use Rattle.line_grammar.specs.Line.{reading_of, read_line, read_fields}
+use Rattle.request_lines.specs.Input.{is_client, IsSessionOf}
 use Rattle.request_lines.specs.Counting.{counted, limit_by_counts}
 use Rattle.request_lines.specs.Reading.{Progress, no_progress, all_ended, kept, taken, error_of_text}
 use Rattle.request_lines.specs.Sample.{sample_name, sample_line, sample_lines, sample_text}

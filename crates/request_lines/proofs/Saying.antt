@@ -1,9 +1,8 @@
 -- What the lines of a block say, as far as they were read.
 use Rattle.std.proofs.Common.{◌≡◌, ℕ, List, [], ◌∷◌, ◌++◌, Option, Some, refl, sym, ap, subst, ◌∙◌, append_assoc}
 use Rattle.std.specs.Borrow.{Bor}
-use Rattle.request_lines.specs.InputParts.{texts_of}
-use Rattle.request_lines.specs.Left.{texts_left}
-use Rattle.request_lines.specs.declared.command.Command.{Command}
+use Rattle.request_lines.specs.InputParts.{texts_of, texts_left}
+use Rattle.line_grammar.specs.declared.command.Command.{Command}
 use Rattle.request_lines.specs.Said.{SaysLine, SayInTurn}
 
 -- the lines up to those that are left say these commands

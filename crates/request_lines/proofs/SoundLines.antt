@@ -11,22 +11,23 @@ use Rattle.key_names.specs.Names.{IsFine}
 use Rattle.bucket_terms.specs.declared.record.Record.{Record}
 use Rattle.bucket_terms.specs.declared.request.Request.{Request}
 use Rattle.bucket_terms.specs.declared.request.Request.TheVariants as asks
-use Rattle.request_lines.specs.declared.cause.Cause.{Cause}
-use Rattle.request_lines.specs.declared.command.Command.{Command}
-use Rattle.request_lines.specs.declared.command.Command.TheVariants as says
+use Rattle.line_grammar.specs.declared.cause.Cause.{Cause}
+use Rattle.line_grammar.specs.declared.command.Command.{Command}
+use Rattle.line_grammar.specs.declared.command.Command.TheVariants as says
 use Rattle.request_lines.specs.declared.counts.Counts.{Counts}
 use Rattle.request_lines.specs.declared.session.Asked.{Asked}
-use Rattle.request_lines.specs.declared.cause.Cause.TheVariants.{NoClient}
-use Rattle.request_lines.specs.declared.verb.PutWhen.{PutWhen}
-use Rattle.request_lines.specs.declared.verb.PutWhen.TheVariants.{Always, IfAbsent}
-use Rattle.request_lines.specs.Input.{is_client, put_request, reading_of}
-use Rattle.request_lines.specs.Fine.{IsFineCommand}
+use Rattle.line_grammar.specs.declared.cause.Cause.TheVariants.{NoClient}
+use Rattle.line_grammar.specs.declared.verb.PutWhen.{PutWhen}
+use Rattle.line_grammar.specs.declared.verb.PutWhen.TheVariants.{Always, IfAbsent}
+use Rattle.request_lines.specs.Input.{is_client, put_request}
+use Rattle.line_grammar.specs.Line.{reading_of}
+use Rattle.line_grammar.specs.Fine.{IsFineCommand}
 use Rattle.request_lines.specs.Counting.{counted, limit_by_counts, cause_by_counts}
 use Rattle.request_lines.specs.InputParts.{error_at}
 use Rattle.request_lines.specs.Reading.{Progress, no_progress, all_ended, kept, taken, error_of_text, Reaches}
 use Rattle.request_lines.specs.Session.{request_line}
 use Rattle.request_lines.specs.SessionLaws.{all_requests, requested_name, record_place, asked_name, asked_place, IsFineRequest, IsServed}
-use Rattle.request_lines.proofs.Fine.{IsFineReading, reading_fine}
+use Rattle.line_grammar.proofs.Fine.{IsFineReading, reading_fine}
 use Rattle.request_lines.proofs.Sound.{asked_so_far, IsPartServed, IsSound, sound_start, rises_higher, rises_push, served_more, all_ended_requests, all_ended_served, all_ended_rising, all_ended_length}
 
 -- a line that begins a client

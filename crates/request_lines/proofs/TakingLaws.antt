@@ -4,20 +4,20 @@ use Rattle.std.specs.Prelude.{◌==◌, if◌then◌else◌}
 use Rattle.std.specs.Borrow.{Bor}
 use Rattle.std.proofs.Math.Seq.{take-add}
 use Rattle.std.proofs.lemmas.List.{take_more, drop_more, take-append-drop, append-nil, length-take-le, take_all}
-use Rattle.request_lines.specs.declared.cause.Cause.{Cause}
-use Rattle.request_lines.specs.declared.command.Command.{Command}
-use Rattle.request_lines.specs.declared.line_error.LineError.{LineError}
-use Rattle.request_lines.specs.declared.line_error.LineError.TheVariants as faults
+use Rattle.line_grammar.specs.declared.cause.Cause.{Cause}
+use Rattle.line_grammar.specs.declared.command.Command.{Command}
+use Rattle.line_grammar.specs.declared.line_error.LineError.{LineError}
+use Rattle.line_grammar.specs.declared.line_error.LineError.TheVariants as faults
 use Rattle.request_lines.specs.declared.session_error.InputError.{InputError}
 use Rattle.request_lines.specs.declared.session_error.SessionError.{SessionError}
 use Rattle.request_lines.specs.declared.session_error.SessionError.TheVariants as errors
-use Rattle.request_lines.specs.Fine.{IsFineCommand}
-use Rattle.request_lines.specs.Input.{reading_of}
+use Rattle.line_grammar.specs.Fine.{IsFineCommand}
+use Rattle.line_grammar.specs.Line.{reading_of}
 use Rattle.request_lines.specs.InputParts.{error_at, texts_of}
 use Rattle.request_lines.specs.Reading.{Progress, taken, error_of_text, session_error, Takes, KeepsReading, Reaches, Meets, TakesAll}
 use Rattle.request_lines.specs.declared.said.Said.{Said}
 use Rattle.request_lines.specs.Said.{said_of, SaysLine, SayInTurn, StopsAt, Says, texts_in}
-use Rattle.request_lines.proofs.Fine.{IsFineReading, reading_fine}
+use Rattle.line_grammar.proofs.Fine.{IsFineReading, reading_fine}
 
 -- ---- one line
 

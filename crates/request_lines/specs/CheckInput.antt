@@ -1,7 +1,7 @@
 -- The lines of a text; and the input of `check`: a session, a line that is `----`, and a written text.
 use Rattle.std.specs.Prelude.{◌≡◌, ℕ, ◌+◌, ◌-◌, ◌==◌, Bool, List, [], ◌∷◌, length, take, codes, slice_index, Option, Some, None, is_some, if◌then◌else◌}
 use Rattle.std.specs.{List.concat, List.before_first, List.after_first, List.list_any, Option.option_or, Str.bytes_eq, Str.Lines.strip_carriage_return}
-use Rattle.request_lines.specs.declared.cause.Cause.TheVariants.{NoText}
+use Rattle.line_grammar.specs.declared.cause.Cause.TheVariants.{NoText}
 use Rattle.request_lines.specs.declared.{session.Session.Session, session_error.InputError.InputError}
 use Rattle.request_lines.specs.Input.{IsSessionOf, refusal_of}
 

@@ -3,14 +3,14 @@
 use Rattle.std.specs.Prelude.{◌+◌, ◌≤◌, ◌==◌, ◌&&◌, not, nat_lt, Option, Some, None, Result, Ok, Err, if◌then◌else◌}
 use Rattle.bucket_terms.specs.declared.request.Request.{Request}
 use Rattle.bucket_terms.specs.declared.request.Request.TheVariants as asks
-use Rattle.request_lines.specs.declared.cause.Cause.{Cause}
-use Rattle.request_lines.specs.declared.cause.Cause.TheVariants.{NoClient, TooManyClients, TooManyLines, TooManyEntries}
-use Rattle.request_lines.specs.declared.command.Command.{Command}
-use Rattle.request_lines.specs.declared.command.Command.TheVariants as says
+use Rattle.line_grammar.specs.declared.cause.Cause.{Cause}
+use Rattle.line_grammar.specs.declared.cause.Cause.TheVariants.{NoClient, TooManyClients, TooManyLines, TooManyEntries}
+use Rattle.line_grammar.specs.declared.command.Command.{Command}
+use Rattle.line_grammar.specs.declared.command.Command.TheVariants as says
 use Rattle.request_lines.specs.declared.counts.Counts.{Counts}
 use Rattle.request_lines.specs.Input.{is_client, put_request}
 use Rattle.request_lines.specs.InputParts.{most_clients, most_requests, most_listed}
-use Rattle.request_lines.specs.Queries.{most_keys}
+use Rattle.line_grammar.specs.Line.{most_keys}
 
 -- before the first line
 abbrev pub none_counted : Counts

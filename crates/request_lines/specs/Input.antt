@@ -1,66 +1,18 @@
--- What a line says, by cases on its verb and its fields; the session of a whole input, or its refusal.
-use Rattle.std.specs.Prelude.{◌≡◌, ℕ, ◌+◌, ◌==◌, ◌&&◌, not, nat_lt, Bool, true, false, List, [], ◌∷◌, ◌++◌, length, map, drop, Option, Some, None, Result, Ok, Err, codes, count_by, slice_get, if◌then◌else◌}
-use Rattle.std.specs.{List.slice_split, List.filter_map, Option.option_map, Option.option_map_or, Option.option_to_list, Result.result_ok, Str.is_utf8, Str.bytes_eq, Str.Lines.strip_carriage_return}
+-- The causes that a line has after the lines before it, with the limits; the session of a whole input, or its refusal.
+use Rattle.std.specs.Prelude.{◌≡◌, ℕ, ◌+◌, ◌==◌, ◌&&◌, not, nat_lt, Bool, true, false, List, [], ◌∷◌, ◌++◌, length, map, drop, Option, Some, None, Result, Ok, Err, count_by, slice_get, if◌then◌else◌}
+use Rattle.std.specs.{List.slice_split, List.filter_map, Option.option_map, Option.option_map_or, Option.option_to_list, Result.result_ok, Str.Lines.strip_carriage_return}
 use Rattle.bucket_terms.specs.declared.{record.Record.Record, request.Request.Request}
 use Rattle.bucket_terms.specs.declared.request.Request.TheVariants as asks
-use Rattle.request_lines.specs.declared.{cause.Cause.Cause, command.Command.Command, session.Asked.Asked, session.ClientPart.ClientPart}
-use Rattle.request_lines.specs.declared.{session.Session.Session, session_error.InputError.InputError, verb.PutWhen.PutWhen, verb.Verb.Verb}
-use Rattle.request_lines.specs.declared.parameter.Version.{Version}
-use Rattle.request_lines.specs.declared.cause.Cause.TheVariants.{NotUtf8, UnknownVerb, WrongFields, NoClient, TooManyClients, TooManyLines, TooManyEntries}
-use Rattle.request_lines.specs.declared.command.Command.TheVariants as says
-use Rattle.request_lines.specs.declared.verb.PutWhen.TheVariants.{Always, IfAbsent}
-use Rattle.request_lines.specs.declared.verb.Verb.TheVariants as verbs
-use Rattle.request_lines.specs.declared.parameter.Version.TheVariants.{V1, V2}
-use Rattle.request_lines.specs.Queries.{listing_read}
-use Rattle.request_lines.specs.Texts.{◌>>=◌, key_read, numbers_read, etag_read}
+use Rattle.line_grammar.specs.declared.{cause.Cause.Cause, command.Command.Command, verb.PutWhen.PutWhen}
+use Rattle.line_grammar.specs.declared.cause.Cause.TheVariants.{NoClient, TooManyClients, TooManyLines, TooManyEntries}
+use Rattle.line_grammar.specs.declared.command.Command.TheVariants as says
+use Rattle.line_grammar.specs.declared.verb.PutWhen.TheVariants.{Always, IfAbsent}
+use Rattle.line_grammar.specs.Line.{reading_of}
+use Rattle.request_lines.specs.declared.{session.Asked.Asked, session.Session.Session, session_error.InputError.InputError}
 
 -- the most bytes of an input: 64 MiB
 abbrev pub most_input_bytes : ℕ
 most_input_bytes = 67108864
-
--- ---- one line
-
--- the verb of this text, in upper case
-abbrev pub verb_of : List ℕ → Option Verb
-verb_of text =
-    if bytes_eq text (codes "CLIENT") then Some verbs.Client
-    else if bytes_eq text (codes "PUT") then Some (verbs.Put Always)
-    else if bytes_eq text (codes "PUTNEW") then Some (verbs.Put IfAbsent)
-    else if bytes_eq text (codes "DELETE") then Some verbs.Delete
-    else if bytes_eq text (codes "HEAD") then Some verbs.Head
-    else if bytes_eq text (codes "LIST") then Some (verbs.List V2)
-    else if bytes_eq text (codes "LISTV1") then Some (verbs.List V1)
-    else if bytes_eq text (codes "NEXT") then Some verbs.Next
-    else None
-
--- a PUT or PUTNEW line with these fields
-unfoldable pub put_read : PutWhen → List ℕ → List ℕ → List ℕ → List ℕ → Result Command Cause
-put_read when key size etag modified = do
-  name ← key_read key
-  numbers ← numbers_read size modified
-  tag ← etag_read etag
-  Ok (says.Put when name (record { size = numbers.0; etag = tag; modified = numbers.1 }))
-
--- a line of this verb, with these fields after it. A listing without a query has an empty one.
-unfoldable pub read_fields : Verb → List (List ℕ) → Result Command Cause
-read_fields verbs.Client [] = Ok says.Client
-read_fields (verbs.Put when) (key ∷ size ∷ etag ∷ modified ∷ []) = put_read when key size etag modified
-read_fields verbs.Delete (key ∷ []) = key_read key >>= (λ name. Ok (says.Delete name))
-read_fields verbs.Head (key ∷ []) = key_read key >>= (λ name. Ok (says.Head name))
-read_fields (verbs.List version) [] = listing_read version []
-read_fields (verbs.List version) (query ∷ []) = listing_read version query
-read_fields verbs.Next [] = Ok says.Next
-read_fields verb fields = Err WrongFields
-
--- a line with these fields, of which the first is its verb
-unfoldable pub read_line : List (List ℕ) → Result Command Cause
-read_line [] = Err UnknownVerb
-read_line (verb ∷ fields) = option_map_or (λ (v : Verb). read_fields v fields) (verb_of verb) (Err UnknownVerb)
-
--- what a line says, or the first cause that it has alone, whatever came before it. It is cut into fields at each space,
--- so two spaces in a row have an empty field between them.
-unfoldable pub reading_of : List ℕ → Result Command Cause
-reading_of text = if is_utf8 text then read_line (slice_split (λ b. b == 32) text) else Err NotUtf8
 
 -- ---- limits
 

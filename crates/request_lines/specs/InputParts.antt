@@ -1,33 +1,28 @@
 -- Helper: the headline does not rest on this file.
 -- The parts of an input by which its session is read, and the limits as numbers of their own.
-use Rattle.std.specs.Prelude.{ℕ, ◌==◌, not, Bool, false, List, map, drop, Option, Result, Ok, count_by}
+use Rattle.std.specs.Prelude.{ℕ, ◌==◌, not, Bool, false, List, [], map, drop, Option, Some, None, Result, count_by}
+use Rattle.std.specs.Borrow.{Bor}
 use Rattle.std.specs.List.{slice_split, filter_map}
 use Rattle.std.specs.Option.{option_map, option_map_or, option_to_list}
 use Rattle.std.specs.Result.{result_ok}
 use Rattle.std.specs.Str.Lines.{strip_carriage_return}
 use Rattle.bucket_terms.specs.declared.record.Record.{Record}
 use Rattle.bucket_terms.specs.declared.request.Request.{Request}
-use Rattle.request_lines.specs.declared.cause.Cause.{Cause}
-use Rattle.request_lines.specs.declared.command.Command.{Command}
+use Rattle.line_grammar.specs.declared.cause.Cause.{Cause}
+use Rattle.line_grammar.specs.declared.command.Command.{Command}
 use Rattle.request_lines.specs.declared.session.Asked.{Asked}
 use Rattle.request_lines.specs.declared.session.ClientPart.{ClientPart}
 use Rattle.request_lines.specs.declared.session_error.InputError.{InputError}
-use Rattle.request_lines.specs.Texts.{◌>>=◌}
-use Rattle.request_lines.specs.declared.parameter.Version.{Version}
-use Rattle.request_lines.specs.QueryValues.{query_read, listing_of}
 use Rattle.request_lines.specs.Input.{Line, asked_of, is_client, is_put, name_by, record_by}
 
 -- the texts of the lines: the input is cut at each line feed, and one carriage return at the end of a line is dropped
 abbrev pub texts_of : List ℕ → List (List ℕ)
 texts_of bytes = map strip_carriage_return (slice_split (λ b. b == 10) bytes)
 
--- the fields of a line: it is cut at each space
-abbrev pub fields_of : List ℕ → List (List ℕ)
-fields_of text = slice_split (λ b. b == 32) text
-
--- the LIST or LISTV1 line with this query
-abbrev pub list_read : Version → List ℕ → Result Command Cause
-list_read version text = query_read version text >>= (λ values. Ok (listing_of version values))
+-- the lines that are left: None after the last one
+abbrev pub texts_left : Option (Bor (List ℕ)) → List (List ℕ)
+texts_left None = []
+texts_left (Some bytes) = texts_of bytes.now
 
 -- ---- limits
 

@@ -1,27 +1,16 @@
 -- The grammar of an input, the session that it gives or its refusal, and the generated session.
-pub mod Asking
-pub mod Causes
-pub mod CauseNames
-pub mod Texts
-pub mod Queries
-pub mod QueryValues
-pub mod NamedQueries
 pub mod Counting
 pub mod Input
 pub mod InputParts
 pub mod Session
 pub mod Interned
 pub mod NameHints
-pub mod Left
 pub mod Said
-pub mod Pieces
 pub mod Reading
 pub mod SessionLaws
-pub mod Fine
 pub mod Refusal
 pub mod CheckInput
 pub mod CheckAnswers
-pub mod ReadAnswers
 pub mod Sample
 pub mod SampleSession
 pub mod Generated

@@ -3,18 +3,19 @@
 use Rattle.std.specs.Prelude.{◌≡◌, ◌⊎◌, ℕ, ◌+◌, ◌==◌, Bool, true, false, List, [], ◌∷◌, ◌++◌, length, Option, Some, None, Result, Ok, Err, if◌then◌else◌}
 use Rattle.std.specs.Option.{option_to_list}
 use Rattle.bucket_terms.specs.declared.record.Record.{Record}
-use Rattle.request_lines.specs.declared.cause.Cause.{Cause}
-use Rattle.request_lines.specs.declared.command.Command.{Command}
+use Rattle.line_grammar.specs.declared.cause.Cause.{Cause}
+use Rattle.line_grammar.specs.declared.command.Command.{Command}
 use Rattle.request_lines.specs.declared.counts.Counts.{Counts}
-use Rattle.request_lines.specs.declared.line_error.LineError.{LineError}
-use Rattle.request_lines.specs.declared.line_error.LineError.TheVariants as faults
+use Rattle.line_grammar.specs.declared.line_error.LineError.{LineError}
+use Rattle.line_grammar.specs.declared.line_error.LineError.TheVariants as faults
 use Rattle.request_lines.specs.declared.reader.Reader.{Reader}
 use Rattle.request_lines.specs.declared.session.Asked.{Asked}
 use Rattle.request_lines.specs.declared.session.ClientPart.{ClientPart}
 use Rattle.request_lines.specs.declared.session_error.InputError.{InputError}
 use Rattle.request_lines.specs.declared.session_error.SessionError.{SessionError}
 use Rattle.request_lines.specs.declared.session_error.SessionError.TheVariants as errors
-use Rattle.request_lines.specs.Input.{reading_of, name_by, record_by}
+use Rattle.line_grammar.specs.Line.{reading_of}
+use Rattle.request_lines.specs.Input.{name_by, record_by}
 use Rattle.request_lines.specs.Counting.{none_counted, counted_with, cause_by_counts, request_by_counts}
 use Rattle.request_lines.specs.InputParts.{error_at, asked_at, begins_client}
 

@@ -3,12 +3,12 @@
 use Rattle.std.specs.Prelude.{◌≡◌, ℕ, ◌<◌, ◌≤◌, ◌==◌, List, [], ◌∷◌, ◌++◌, length, Option, Some, None, Result, Ok, Err, slice_index_or, if◌then◌else◌}
 use Rattle.std.specs.Borrow.{Bor}
 use Rattle.std.specs.Option.{option_map}
-use Rattle.request_lines.specs.declared.cause.Cause.{Cause}
-use Rattle.request_lines.specs.declared.command.Command.{Command}
-use Rattle.request_lines.specs.declared.line_error.LineError.{LineError}
-use Rattle.request_lines.specs.declared.line_error.LineError.TheVariants as faults
+use Rattle.line_grammar.specs.declared.cause.Cause.{Cause}
+use Rattle.line_grammar.specs.declared.command.Command.{Command}
+use Rattle.line_grammar.specs.declared.line_error.LineError.{LineError}
+use Rattle.line_grammar.specs.declared.line_error.LineError.TheVariants as faults
 use Rattle.request_lines.specs.declared.said.Said.{Said}
-use Rattle.request_lines.specs.Input.{reading_of}
+use Rattle.line_grammar.specs.Line.{reading_of}
 use Rattle.request_lines.specs.InputParts.{texts_of}
 
 -- what a line says, or its own cause; nothing where it is empty

@@ -9,7 +9,7 @@ use Rattle.bucket_terms.specs.declared.request.Request.TheVariants.{Put, Delete,
 use Rattle.request_lines.specs.declared.session.Asked.{Asked}
 use Rattle.request_lines.specs.declared.session.ClientPart.{ClientPart}
 use Rattle.request_lines.specs.declared.session.Session.{Session}
-use Rattle.request_lines.specs.Queries.{most_keys}
+use Rattle.line_grammar.specs.Line.{most_keys}
 use Rattle.request_lines.specs.Sample.{sample_name}
 
 -- the most requests of a client

@@ -10,7 +10,7 @@ use Rattle.request_lines.specs.declared.session.Asked.{Asked}
 use Rattle.request_lines.specs.declared.session.ClientPart.{ClientPart}
 use Rattle.request_lines.specs.declared.session.Session.{Session}
 use Rattle.request_lines.specs.InputParts.{most_clients, most_requests}
-use Rattle.request_lines.specs.Fine.{IsFineQuery, IsFineV1Query}
+use Rattle.line_grammar.specs.Fine.{IsFineQuery, IsFineV1Query}
 use Rattle.request_lines.specs.Session.{request_line, request_lines}
 
 -- what all clients ask, client by client

@@ -1,7 +1,7 @@
 // Blocks of lines, into which an input is cut so that several threads read what its lines say.
 ghost use Rattle.std.specs.Prelude.{◌≡◌, ◌≤◌, ◌++◌, length, IfOk};
-ghost use Rattle.request_lines.specs.InputParts.{texts_of};
-ghost use Rattle.request_lines.specs.Left.{texts_left, size_left};
+ghost use Rattle.request_lines.specs.InputParts.{texts_of, texts_left};
+ghost use Rattle.line_grammar.specs.Left.{size_left};
 ghost use Rattle.request_lines.specs.Said.{texts_in};
 
 use crate::read::line_feed;

@@ -1,11 +1,10 @@
 // What the lines so far have asked, against the limits of a session.
 ghost use Rattle.std.specs.Prelude.{◌≡◌, None, Some, IfOk, MatchResult};
 ghost use Rattle.request_lines.specs.Counting.{IsWithin, counted, limit_by_counts, none_counted};
-ghost use Rattle.request_lines.specs.Fine.{IsFineCommand};
+ghost use Rattle.line_grammar.specs.Fine.{IsFineCommand};
 
-use crate::Cause;
-use crate::command::Command;
 use crate::limits::{MAX_CLIENTS, MAX_LISTED, MAX_REQUESTS};
+use line_grammar::{Cause, Command};
 
 /// How much the lines so far have asked.
 #[derive(Clone, Copy, Debug)]

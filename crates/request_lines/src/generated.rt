@@ -10,7 +10,6 @@ ghost use Rattle.request_lines.specs.SessionLaws.{HasNames, HasRequests, HasLine
 use crate::interner::Interner;
 use crate::reader::session_of;
 use crate::sample::{CLIENTS, push_name};
-use crate::values::Values;
 use crate::{Asked, ClientPart, Requests, Session};
 use bucket_terms::{ListQuery, Record, Request, Shared};
 use key_names::{NoMemory, Text};
@@ -228,10 +227,20 @@ fn name_of(alloc: Global, client: u32, i: u32) -> Result<Text, NoMemory>
 fn query_of(alloc: Global, client: u32) -> Result<ListQuery, NoMemory>
     ensures { IfOk result (λ query. query ≡ spec.sample_query client) }
 {
-    let mut values = Values::none(alloc);
-    values.prefix = prefix_of(alloc, client)?;
-    values.max_keys = LISTED;
-    Ok(values.list_query())
+    Ok(ListQuery {
+        prefix: prefix_of(alloc, client)?,
+        delimiter: no_text(alloc),
+        start_after: no_text(alloc),
+        token: no_text(alloc),
+        max_keys: LISTED,
+        url: false,
+    })
+}
+
+fn no_text(alloc: Global) -> Text
+    ensures { result ≡ [] }
+{
+    Text::from_string(String::new(alloc))
 }
 
 // What a client's names begin with.

@@ -2,15 +2,15 @@
 // once.
 ghost use Rattle.std.specs.Prelude.{◌≡◌, ◌<◌, ◌≤◌, ◌++◌, ◌∷◌, [], length, map, All, IfOk, OnOk, OnErr, IsOkUnless, replicate, slice_index};
 ghost use Rattle.key_names.specs.Ranks.{most_names};
-ghost use Rattle.request_lines.specs.declared.line_error.LineError.TheVariants.{NoMemory as OutOfMemory};
+ghost use Rattle.line_grammar.specs.declared.line_error.LineError.TheVariants.{NoMemory as OutOfMemory};
 ghost use Rattle.request_lines.specs.Interned.{AreGroups, AreRanks, HaveNumbers, IsKnownAs, IsRankedBy};
 
 use crate::known::Known;
 use crate::leads::{Numbered, sorted};
-use crate::line_error::LineError;
 use crate::name_hints::{NameHint, if_kept_as};
 use crate::names::Names;
 use key_names::{NoMemory, Text};
+use line_grammar::LineError;
 use std::alloc::{AllocError, Global};
 use std::marker::Model;
 

@@ -5,22 +5,15 @@
 #![tactic(auto)]
 
 mod blocks;
-mod cause;
 mod check_input;
-mod command;
 mod counts;
 mod generated;
 mod interner;
 mod known;
 mod leads;
 mod limits;
-mod line_error;
 mod name_hints;
 mod names;
-mod parameter;
-mod parts;
-mod put;
-mod query;
 mod read;
 mod read_on_threads;
 mod reader;
@@ -32,14 +25,11 @@ mod sample;
 mod session;
 mod session_error;
 mod taking;
-mod texts;
-mod values;
-mod verb;
 
-pub use cause::Cause;
 pub use check_input::{CheckInput, line_len, read_check_input};
 pub use generated::sample_session;
 pub use limits::MAX_INPUT_BYTES;
+pub use line_grammar::Cause;
 pub use names::Names;
 pub use read::read_session;
 pub use read_on_threads::read_session_on_threads;

@@ -3,10 +3,10 @@ ghost use Rattle.std.specs.Prelude.{◌≡◌, Some, IfSome};
 ghost use Rattle.request_lines.specs.Interned.{IsKnownAs};
 ghost use Rattle.request_lines.specs.NameHints.{IsKeptAs, IsRightHint};
 
-use crate::command::Command;
 use crate::interner::Interner;
 use crate::known::hash_of;
 use key_names::Text;
+use line_grammar::Command;
 
 // The names of this many lines are looked for before the first of them is kept. Each of them, and its place in the
 // table, may lie anywhere in memory, and the waits for them then overlap.
@@ -34,7 +34,7 @@ impl NameHint {
     /// The hint for a line whose name has not been looked for.
     pub(crate) fn of(command: &Command) -> NameHint {
         let mut hint = NameHint::none();
-        if let Some(name) = command.name() {
+        if let Some(name) = name_of(command) {
             hint.hash = hash_of(name);
         }
         hint
@@ -57,6 +57,14 @@ impl NameHint {
             return if_kept_as(names, name, number);
         }
         None
+    }
+}
+
+// The name of the object that a line is about, where it is about one.
+fn name_of(command: &Command) -> Option<&Text> {
+    match command {
+        Command::Put { name, .. } | Command::Delete { name } | Command::Head { name } => Some(name),
+        Command::Client | Command::List(_) | Command::ListV1(_) | Command::Next => None,
     }
 }
 

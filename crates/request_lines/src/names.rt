@@ -55,6 +55,18 @@ impl Names {
         Ok(Names { names, order: None })
     }
 
+    /// A name for each line. Where they came as a vector it is that one, and no memory is taken; where a session was
+    /// read each line gets a copy of its own.
+    pub fn into_vec(self, alloc: Global) -> Result<Vec<Text>, NoMemory>
+        ensures { IfOk result (λ names. names.items ≡ self) }
+    {
+        let Names { names, order } = self;
+        match order {
+            None => Ok(names),
+            Some(order) => names_at(alloc, &names, order.as_slice()),
+        }
+    }
+
     /// The names with these places among the distinct ones.
     pub(crate) fn of(distinct: Vec<Text>, order: Vec<usize>) -> Names
         requires interned { IsInterned distinct.items order.items }
@@ -138,4 +150,16 @@ fn copies(alloc: Global, names: &[Text]) -> Result<Vec<Text>, NoMemory>
         copied.push(name.copy(alloc)?)?;
     }
     Ok(copied)
+}
+
+// The names at these places.
+fn names_at(alloc: Global, names: &[Text], places: &[usize]) -> Result<Vec<Text>, NoMemory>
+    requires { All (λ place. place < length names.now) places.now }
+    ensures { IfOk result (λ listed. listed.items ≡ named names.now places.now) }
+{
+    let mut listed = Vec::with_capacity(alloc, places.len())?;
+    for place in places {
+        listed.push(names[*place].copy(alloc)?)?;
+    }
+    Ok(listed)
 }

@@ -2,15 +2,15 @@
 ghost use Rattle.std.specs.Prelude.{◌≡◌, ◌<◌, ◌≤◌, ◌==◌, ◌∷◌, length, IfOk};
 ghost use Rattle.std.specs.List.{position};
 ghost use Rattle.request_lines.specs.Input.{most_input_bytes, IsSessionOf};
-ghost use Rattle.request_lines.specs.InputParts.{texts_of};
+ghost use Rattle.request_lines.specs.InputParts.{texts_of, texts_left};
 ghost use Rattle.request_lines.specs.Refusal.{IsRefused};
 ghost use Rattle.request_lines.specs.SessionLaws.{HasNames, HasRecords, HasRequests, HasLines, IsSmall};
-ghost use Rattle.request_lines.specs.Left.{texts_left, size_left};
+ghost use Rattle.line_grammar.specs.Left.{size_left};
 ghost use Rattle.std.specs.Str.Lines.{strip_carriage_return};
 
-use crate::parts::first_part;
 use crate::reader::Reader;
 use crate::{Session, SessionError};
+use line_grammar::first_part;
 use memchr::memchr;
 use std::alloc::Global;
 

@@ -1,25 +1,23 @@
 // What is kept of the lines so far.
 ghost use Rattle.std.specs.Prelude.{◌≡◌, ◌≤◌, ℕ, List, ◌∷◌, [], ◌++◌, length, Ok, OnOk, IfOk, IsOkUnless};
 ghost use Rattle.key_names.specs.Ranks.{most_names};
-ghost use Rattle.request_lines.specs.declared.line_error.LineError.TheVariants.{NoMemory as OutOfMemory};
+ghost use Rattle.line_grammar.specs.declared.line_error.LineError.TheVariants.{NoMemory as OutOfMemory};
 ghost use Rattle.request_lines.specs.declared.session_error.SessionError.TheVariants.{NoMemory as NoSession};
 ghost use Rattle.request_lines.specs.Counting.{IsWithin, counted};
 ghost use Rattle.request_lines.specs.Input as spec;
-ghost use Rattle.request_lines.specs.Fine.{IsFineCommand};
+ghost use Rattle.line_grammar.specs.Fine.{IsFineCommand};
 ghost use Rattle.request_lines.specs.InputParts.{most_requests};
 ghost use Rattle.request_lines.specs.Reading.{progress, no_progress, all_ended, kept, session_error, Takes, Keeps, KeepsReading};
 ghost use Rattle.request_lines.specs.Said.{SaysLine};
 
-use crate::command::{Command, command_of};
 use crate::counts::Counts;
 use crate::interner::Interner;
-use crate::line_error::LineError;
 use crate::name_hints::NameHint;
-use crate::verb::PutWhen;
 use crate::{Asked, ClientPart, InputError, Requests, Session, SessionError};
 use bucket_terms::{Record, Request};
 use key_map::Items;
 use key_names::{NoMemory, Text};
+use line_grammar::{Command, LineError, PutWhen, command_of};
 use std::alloc::Global;
 use std::mem;
 

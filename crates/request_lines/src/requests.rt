@@ -54,6 +54,14 @@ impl Requests {
         Requests { asked, ranks }
     }
 
+    /// The requests alone, in the memory that they have.
+    pub fn into_vec(self) -> Vec<Asked>
+        ensures { result.items ≡ self }
+    {
+        let Requests { asked, ranks: _ } = self;
+        asked
+    }
+
     pub fn len(&self) -> usize
         ensures { result ≡ length self.now }
     {

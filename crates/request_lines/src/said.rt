@@ -3,12 +3,10 @@ ghost use Rattle.std.specs.Prelude.{◌≡◌, [], length, None, OnOk};
 ghost use Rattle.request_lines.specs.InputParts.{texts_of};
 ghost use Rattle.request_lines.specs.Said.{Says, IsRead, ReadsLine};
 
-use crate::Cause;
-use crate::command::{Command, command_of, command_of_text};
-use crate::line_error::LineError;
 use crate::read::{first_line, first_line_of_text};
 use crate::room::make_room;
 use key_names::NoMemory;
+use line_grammar::{Cause, Command, LineError, command_of, command_of_text};
 use simdutf8::basic::from_utf8;
 use std::alloc::Global;
 use std::mem;

@@ -5,10 +5,10 @@ ghost use Rattle.request_lines.specs.Reading.{progress, TakesAll};
 ghost use Rattle.request_lines.specs.Said.{IsRead, AreRead, texts_in};
 
 use crate::SessionError;
-use crate::line_error::LineError;
 use crate::name_hints::NameHints;
 use crate::reader::{Reader, error_at};
 use crate::said::Said;
+use line_grammar::LineError;
 use std::alloc::Global;
 
 impl Reader {

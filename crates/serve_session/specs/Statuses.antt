@@ -1,7 +1,7 @@
 -- Helper: the headline does not rest on this file.
 -- The exit status of the process for each end of serving, and what standard error says of it.
 use Rattle.std.specs.Prelude.{ℕ, List, ◌++◌, codes, decimal}
-use Rattle.request_lines.specs.CauseNames.{cause_name}
+use Rattle.line_grammar.specs.CauseNames.{cause_name}
 use Rattle.serve_session.specs.declared.status.Status.{Status}
 use Rattle.serve_session.specs.declared.status.Status.TheVariants.{Done, BadWords, BadInput, TooLong, ReadFault, WriteFault, NoMemory, Illegal}
 

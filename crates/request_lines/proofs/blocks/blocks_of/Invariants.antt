@@ -1,6 +1,6 @@
 use Rattle.std.proofs.Common.{◌≡◌, ◌++◌}
-use Rattle.request_lines.specs.InputParts.{texts_of}
-use Rattle.request_lines.specs.Left.{texts_left, size_left}
+use Rattle.request_lines.specs.InputParts.{texts_of, texts_left}
+use Rattle.line_grammar.specs.Left.{size_left}
 use Rattle.request_lines.specs.Said.{texts_in}
 use Rattle.request_lines.proofs.blocks.blocks_of.Given as goal
 

@@ -2,7 +2,7 @@ use Rattle.std.proofs.Common.{ℕ, List, ◌==◌, Some, arith, subst}
 use Rattle.std.proofs.Common.{◌≡◌, ◌<◌, length}
 use Rattle.std.specs.List.{position_or_len}
 use Rattle.request_lines.proofs.BlockLaws.{block_cut}
-use Rattle.request_lines.proofs.TextLaws.{place_found}
+use Rattle.line_grammar.proofs.TextLaws.{place_found}
 use Rattle.request_lines.proofs.blocks.first_block.Goals as goal
 
 pub returns-in-Some-clause-cut : goal.returns-in-Some-clause-cut

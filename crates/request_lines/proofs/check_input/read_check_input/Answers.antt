@@ -1,5 +1,5 @@
 use Rattle.std.proofs.Common.{◌+◌, ◌∙◌, ap, sym, ℕ, Some}
-use Rattle.request_lines.specs.declared.cause.Cause.TheVariants.{NoText}
+use Rattle.line_grammar.specs.declared.cause.Cause.TheVariants.{NoText}
 use Rattle.request_lines.proofs.CheckInputs.{accepted, lacks_text, refused}
 use Rattle.request_lines.proofs.check_input.read_check_input.Goals as goal
 

@@ -1,5 +1,6 @@
 use Rattle.std.proofs.Common.{Some, None}
-use Rattle.request_lines.proofs.TextLaws.{place_found, texts_cut, texts_whole}
+use Rattle.line_grammar.proofs.TextLaws.{place_found}
+use Rattle.request_lines.proofs.BlockLaws.{texts_cut, texts_whole}
 use Rattle.request_lines.proofs.read.first_line.Goals as goal
 
 pub returns-in-Some-clause-cut : goal.returns-in-Some-clause-cut

@@ -1,5 +1,5 @@
 use Rattle.std.proofs.Common.{◌==◌}
-use Rattle.request_lines.proofs.FirstByte.{first_position}
+use Rattle.line_grammar.proofs.FirstByte.{first_position}
 use Rattle.request_lines.proofs.read.line_feed.Goals as goal
 
 pub returns : goal.returns

@@ -2,7 +2,8 @@ use Rattle.std.proofs.Common.{Err, IfOk, ◌+◌, ap, arith}
 use Rattle.std.proofs.lemmas.Result.{err_from_is_err_and, IfOk-weaker}
 use Rattle.request_lines.specs.SessionLaws.{HasNames, HasRecords, HasRequests, HasLines, IsSmall}
 use Rattle.request_lines.specs.Reading.{progress}
-use Rattle.request_lines.specs.Left.{texts_left, size_left}
+use Rattle.request_lines.specs.InputParts.{texts_left}
+use Rattle.line_grammar.specs.Left.{size_left}
 use Rattle.request_lines.proofs.InputLaws.{halfway_start, halfway_more, halfway_next, refused_at, session_at, answer_at}
 use Rattle.request_lines.proofs.CountedLines.{IsSessionOf}
 use Rattle.request_lines.proofs.LineCounts.{session_is, refused_is}

@@ -1,7 +1,8 @@
 use Rattle.std.proofs.Common.{◌≤◌, ◌+◌, length}
 use Rattle.request_lines.specs.Counting.{IsWithin}
 use Rattle.request_lines.specs.Reading.{progress}
-use Rattle.request_lines.specs.Left.{texts_left, size_left}
+use Rattle.request_lines.specs.InputParts.{texts_left}
+use Rattle.line_grammar.specs.Left.{size_left}
 use Rattle.request_lines.proofs.InputLaws.{IsHalfway}
 use Rattle.request_lines.proofs.Sound.{IsSound}
 use Rattle.request_lines.proofs.read.read_session.Given as goal

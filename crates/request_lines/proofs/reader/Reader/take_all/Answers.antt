@@ -1,7 +1,7 @@
 use Rattle.std.proofs.Common.{◌≡◌, ℕ, ◌+◌, ◌<◌, [], take, Option, Ok, Err, length, get_or, sym, ap, subst, ◌∙◌, arith}
 use Rattle.std.proofs.lemmas.Result.{err_from_is_err_and}
-use Rattle.request_lines.specs.declared.command.Command.{Command}
-use Rattle.request_lines.specs.declared.line_error.LineError.TheVariants as faults
+use Rattle.line_grammar.specs.declared.command.Command.{Command}
+use Rattle.line_grammar.specs.declared.line_error.LineError.TheVariants as faults
 use Rattle.request_lines.specs.declared.session_error.SessionError.{SessionError}
 use Rattle.std.proofs.lemmas.List.{length-set, get_or-set_other}
 use Rattle.request_lines.specs.Reading.{progress, TakesAll, Takes, Reaches, session_error}

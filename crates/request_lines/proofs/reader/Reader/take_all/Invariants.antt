@@ -1,5 +1,5 @@
 use Rattle.std.proofs.Common.{◌≡◌, ℕ, ◌+◌, ◌≤◌, List, length, take, get_or, Option}
-use Rattle.request_lines.specs.declared.command.Command.{Command}
+use Rattle.line_grammar.specs.declared.command.Command.{Command}
 use Rattle.request_lines.specs.Counting.{IsWithin}
 use Rattle.request_lines.specs.Reading.{progress, Reaches}
 use Rattle.request_lines.specs.Said.{SayInTurn}

@@ -1,6 +1,6 @@
 use Rattle.std.proofs.Common.{◌≡◌, None}
-use Rattle.request_lines.specs.InputParts.{texts_of}
-use Rattle.request_lines.specs.Left.{texts_left, size_left}
+use Rattle.request_lines.specs.InputParts.{texts_of, texts_left}
+use Rattle.line_grammar.specs.Left.{size_left}
 use Rattle.request_lines.proofs.Saying.{IsSaidUpTo}
 use Rattle.request_lines.proofs.said.Said.push_lines.Given as goal
 

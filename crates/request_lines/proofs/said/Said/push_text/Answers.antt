@@ -1,8 +1,7 @@
 use Rattle.std.proofs.Common.{◌≡◌, [], ◌∷◌, Some, Err, sym, subst}
-use Rattle.request_lines.specs.declared.cause.Cause.{Cause}
-use Rattle.request_lines.specs.declared.line_error.LineError.{LineError}
-use Rattle.request_lines.specs.InputParts.{texts_of}
-use Rattle.request_lines.specs.Left.{texts_left}
+use Rattle.line_grammar.specs.declared.cause.Cause.{Cause}
+use Rattle.line_grammar.specs.declared.line_error.LineError.{LineError}
+use Rattle.request_lines.specs.InputParts.{texts_of, texts_left}
 use Rattle.request_lines.specs.Said.{said_of, ReadsLine}
 use Rattle.request_lines.proofs.Saying.{IsSaidUpTo, said_start, said_next, said_more}
 use Rattle.request_lines.proofs.said.Said.push_text.Goals as goal

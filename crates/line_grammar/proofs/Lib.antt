@@ -1,0 +1,11 @@
+pub mod FirstByte
+pub mod AskedAll
+pub mod ByNames
+pub mod QueryCauses
+pub mod QueryLaws
+pub mod QueryListings
+pub mod TextLaws
+pub mod ShortNumbers
+pub mod TagBytes
+pub mod Fine
+pub mod PieceLaws

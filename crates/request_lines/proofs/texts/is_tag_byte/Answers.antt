@@ -1,5 +1,0 @@
-use Rattle.request_lines.proofs.TagBytes.{tag_entry}
-use Rattle.request_lines.proofs.texts.is_tag_byte.Goals as goal
-
-pub returns : goal.returns
-returns c = tag_entry c.args.b c.ranges.b.fits

@@ -1,5 +1,0 @@
-use Rattle.request_lines.proofs.TextLaws.{number_answer}
-use Rattle.request_lines.proofs.texts.number.Goals as goal
-
-pub returns : goal.returns
-returns c = rw c.ok.ensures.value (number_answer c.args.text.now c.parse.result c.parse.ensures.value.0 c.requires)
