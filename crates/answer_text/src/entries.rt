@@ -11,8 +11,8 @@ ghost use Rattle.answer_text.specs.InRange.{HasRecord};
 ghost use Rattle.answer_text.specs.EntryTexts.{AreRight};
 ghost use Rattle.answer_text.specs.Pieces as spec;
 
-use crate::entry_texts::EntryTexts;
 use crate::escapes::shown;
+use crate::known_texts::KnownTexts;
 use crate::pieces::{push, push_number, push_text};
 use crate::plain::is_plain;
 use bucket_terms::{PageEntries, PageEntry, Record};
@@ -38,21 +38,20 @@ pub(crate) fn push_prefixes(
 /// The keys of these entries with their records, and the end of their array.
 pub(crate) fn push_contents(
     out: &mut String,
-    dir: &Directory,
-    records: &[Record],
-    texts: &EntryTexts,
+    known: &KnownTexts<'_>,
     url: bool,
     entries: &PageEntries,
 ) -> Result<(), NoMemory>
-    requires in_range { All (IsEntryInRange dir.now) entries.now }
-    requires recorded { All (HasRecord records.now) entries.now }
-    requires right { AreRight dir.now records.now texts.now }
-    ensures { OnOk result (string_bytes out.new ≡ string_bytes out.old ++ items_text false (items_of (filter_map (content_of dir.now records.now url) entries.now))) }
+    requires in_range { All (IsEntryInRange known.now.dir.now) entries.now }
+    requires recorded { All (HasRecord known.now.records.now) entries.now }
+    requires right { AreRight known.now.dir.now known.now.records.now known.now.texts.now }
+    ensures { OnOk result (string_bytes out.new ≡ string_bytes out.old
+        ++ items_text false (items_of (filter_map (content_of known.now.dir.now known.now.records.now url) entries.now))) }
 {
     let mut later = false;
     for place in 0..entries.len() {
         let entry = entries.at(place);
-        later = push_content_of(out, later, dir, records, texts, url, entry)?;
+        later = push_content_of(out, later, known, url, entry)?;
     }
     push(out, "]")
 }
@@ -85,21 +84,19 @@ fn push_prefix_of(
 fn push_content_of(
     out: &mut String,
     later: bool,
-    dir: &Directory,
-    records: &[Record],
-    texts: &EntryTexts,
+    known: &KnownTexts<'_>,
     url: bool,
     entry: PageEntry,
 ) -> Result<bool, NoMemory>
-    requires in_range { IsEntryInRange dir.now entry }
-    requires recorded { HasRecord records.now entry }
-    requires right { AreRight dir.now records.now texts.now }
-    ensures text { OnOk result (string_bytes out.new ≡ string_bytes out.old ++ spec.content_element later dir.now records.now url entry) }
-    ensures later { IfOk result (λ now. now ≡ (later || is_some (content_of dir.now records.now url entry))) }
+    requires in_range { IsEntryInRange known.now.dir.now entry }
+    requires recorded { HasRecord known.now.records.now entry }
+    requires right { AreRight known.now.dir.now known.now.records.now known.now.texts.now }
+    ensures text { OnOk result (string_bytes out.new ≡ string_bytes out.old ++ spec.content_element later known.now.dir.now known.now.records.now url entry) }
+    ensures later { IfOk result (λ now. now ≡ (later || is_some (content_of known.now.dir.now known.now.records.now url entry))) }
 {
     match entry {
         PageEntry::Key { rank, val } => {
-            push_key(out, later, dir, records, texts, url, u64::from(rank), val)?;
+            push_key(out, later, known, url, u64::from(rank), val)?;
             Ok(true)
         }
         PageEntry::Group { .. } => Ok(later),
@@ -111,25 +108,25 @@ fn push_content_of(
 fn push_key(
     out: &mut String,
     later: bool,
-    dir: &Directory,
-    records: &[Record],
-    texts: &EntryTexts,
+    known: &KnownTexts<'_>,
     url: bool,
     rank: u64,
     val: u64,
 ) -> Result<(), NoMemory>
-    requires ranked { rank < length dir.now }
-    requires recorded { val < length records.now }
-    requires right { AreRight dir.now records.now texts.now }
-    ensures { OnOk result (string_bytes out.new ≡ string_bytes out.old ++ (comma_if later ++ spec.content_text (shown url (name_at dir.now rank)) (record_at records.now val))) }
+    requires ranked { rank < length known.now.dir.now }
+    requires recorded { val < length known.now.records.now }
+    requires right { AreRight known.now.dir.now known.now.records.now known.now.texts.now }
+    ensures { OnOk result (string_bytes out.new ≡ string_bytes out.old
+        ++ (comma_if later ++ spec.content_text (shown url (name_at known.now.dir.now rank)) (record_at known.now.records.now val))) }
 {
     if later && !url {
-        if let Some(text) = texts.text(rank, val) {
+        if let Some(text) = known.texts.text(rank, val) {
             return push(out, text);
         }
     }
     push_comma(out, later)?;
-    push_shown(out, url, dir.name(rank).as_str(), &records[val as usize])
+    let stored = &known.records[val as usize];
+    push_shown(out, url, known.dir.name(rank).as_str(), stored)
 }
 
 // The object of a key, shown as the query asks.

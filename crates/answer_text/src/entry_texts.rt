@@ -128,7 +128,8 @@ impl<'a> WantedTexts<'a> {
 ///     wanted.want(&page.entries.at(place));
 /// }
 /// let texts = wanted.texts(alloc, 0, wanted.len())?;
-/// push_known_line(&mut line, &dir, records, &texts, &placed)?;
+/// let known = KnownTexts { dir: &dir, records, texts: &texts };
+/// push_known_line(&mut line, &known, &placed)?;
 /// ```
 #[derive(Debug, Drop)]
 pub struct EntryTexts {

@@ -8,6 +8,7 @@ mod entries;
 mod entry_texts;
 mod escapes;
 mod journal;
+mod known_texts;
 mod listing;
 mod listing_v1;
 mod pieces;
@@ -16,4 +17,5 @@ mod replies;
 
 pub use entry_texts::{EntryTexts, WantedTexts};
 pub use journal::{journal_line, last_line, push_journal_line};
+pub use known_texts::KnownTexts;
 pub use replies::{push_known_line, push_reply_line, reply_line};

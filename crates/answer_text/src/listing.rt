@@ -10,53 +10,50 @@ ghost use Rattle.answer_text.specs.EntryTexts.{AreRight};
 ghost use Rattle.answer_text.specs.Pieces as spec;
 
 use crate::entries::{push_contents, push_prefixes};
-use crate::entry_texts::EntryTexts;
 use crate::escapes::shown;
+use crate::known_texts::KnownTexts;
 use crate::pieces::{push, push_given, push_number, push_text, push_truth};
 use crate::replies::push_start;
-use bucket_terms::{ListQuery, Page, Placed, Record};
+use bucket_terms::{ListQuery, Page, Placed};
 use key_names::{Directory, NoMemory, Text};
 use std::alloc::Global;
 
 /// The reply to a listing.
 pub(crate) fn push_listing(
     out: &mut String,
-    dir: &Directory,
-    records: &[Record],
-    texts: &EntryTexts,
+    known: &KnownTexts<'_>,
     placed: &Placed,
     query: &ListQuery,
     page: &Page,
 ) -> Result<(), NoMemory>
-    requires page { IsPageOf dir.now records.now page.now }
-    requires right { AreRight dir.now records.now texts.now }
-    ensures { OnOk result (string_bytes out.new ≡ string_bytes out.old ++ spec.listed_text placed.now.at placed.now.client placed.now.line query.now (page_shown dir.now records.now query.now page.now)) }
+    requires page { IsPageOf known.now.dir.now known.now.records.now page.now }
+    requires right { AreRight known.now.dir.now known.now.records.now known.now.texts.now }
+    ensures { OnOk result (string_bytes out.new ≡ string_bytes out.old
+        ++ spec.listed_text placed.now.at placed.now.client placed.now.line query.now (page_shown known.now.dir.now known.now.records.now query.now page.now)) }
 {
     push_start(out, placed)?;
-    push_entries(out, dir, records, texts, query.url, page)?;
+    push_entries(out, known, query.url, page)?;
     push_asked(out, query)?;
     push_size(out, placed, query, page)?;
-    push_bounds(out, dir, query, page)
+    push_bounds(out, known.dir, query, page)
 }
 
 /// The members from `CommonPrefixes` to `Contents`.
 pub(crate) fn push_entries(
     out: &mut String,
-    dir: &Directory,
-    records: &[Record],
-    texts: &EntryTexts,
+    known: &KnownTexts<'_>,
     url: bool,
     page: &Page,
 ) -> Result<(), NoMemory>
-    requires page { IsPageOf dir.now records.now page.now }
-    requires right { AreRight dir.now records.now texts.now }
+    requires page { IsPageOf known.now.dir.now known.now.records.now page.now }
+    requires right { AreRight known.now.dir.now known.now.records.now known.now.texts.now }
     ensures { OnOk result (string_bytes out.new ≡ string_bytes out.old
-        ++ spec.entries_text (filter_map (prefix_of dir.now url) page.now.entries) (filter_map (content_of dir.now records.now url) page.now.entries)) }
+        ++ spec.entries_text (filter_map (prefix_of known.now.dir.now url) page.now.entries) (filter_map (content_of known.now.dir.now known.now.records.now url) page.now.entries)) }
 {
     push(out, ",\"CommonPrefixes\":[")?;
-    push_prefixes(out, dir, url, &page.entries)?;
+    push_prefixes(out, known.dir, url, &page.entries)?;
     push(out, ",\"Contents\":[")?;
-    push_contents(out, dir, records, texts, url, &page.entries)
+    push_contents(out, known, url, &page.entries)
 }
 
 // The members from `ContinuationToken` to `EncodingType`. A token is never escaped.

@@ -9,34 +9,33 @@ ghost use Rattle.answer_text.specs.InRange.{IsPageOf};
 ghost use Rattle.answer_text.specs.EntryTexts.{AreRight};
 ghost use Rattle.answer_text.specs.Pieces as spec;
 
-use crate::entry_texts::EntryTexts;
 use crate::escapes::shown;
+use crate::known_texts::KnownTexts;
 use crate::listing::{is_given, push_entries};
 use crate::pieces::{push, push_given, push_number, push_text, push_truth};
 use crate::replies::push_start;
-use bucket_terms::{Page, Placed, Record, V1Query};
+use bucket_terms::{Page, Placed, V1Query};
 use key_names::{Directory, NoMemory};
 use list_v1::next_marker;
 
 /// The reply to a listing of version 1.
 pub(crate) fn push_v1_listing(
     out: &mut String,
-    dir: &Directory,
-    records: &[Record],
-    texts: &EntryTexts,
+    known: &KnownTexts<'_>,
     placed: &Placed,
     query: &V1Query,
     page: &Page,
 ) -> Result<(), NoMemory>
-    requires page { IsPageOf dir.now records.now page.now }
-    requires right { AreRight dir.now records.now texts.now }
-    ensures { OnOk result (string_bytes out.new ≡ string_bytes out.old ++ spec.v1_text placed.now.at placed.now.client placed.now.line query.now (v1_shown dir.now records.now query.now page.now)) }
+    requires page { IsPageOf known.now.dir.now known.now.records.now page.now }
+    requires right { AreRight known.now.dir.now known.now.records.now known.now.texts.now }
+    ensures { OnOk result (string_bytes out.new ≡ string_bytes out.old
+        ++ spec.v1_text placed.now.at placed.now.client placed.now.line query.now (v1_shown known.now.dir.now known.now.records.now query.now page.now)) }
 {
     push_start(out, placed)?;
-    push_entries(out, dir, records, texts, query.url, page)?;
+    push_entries(out, known, query.url, page)?;
     push_asked(out, query)?;
     push_size(out, placed, query, page)?;
-    push_bounds(out, dir, query, page)
+    push_bounds(out, known.dir, query, page)
 }
 
 // The members from `Delimiter` to `EncodingType`.

@@ -9,6 +9,7 @@ ghost use Rattle.answer_text.specs.EntryTexts.{AreRight};
 ghost use Rattle.answer_text.specs.Pieces as spec;
 
 use crate::entry_texts::EntryTexts;
+use crate::known_texts::KnownTexts;
 use crate::listing::push_listing;
 use crate::listing_v1::push_v1_listing;
 use crate::pieces::{push, push_number, push_place, push_text, push_truth};
@@ -51,46 +52,44 @@ pub fn push_reply_line(
     ensures key_order { (key : List ℕ) → (stored : StoredRecord) → StandInOrder (content_members key stored) }
 {
     let texts = EntryTexts::none(*out.allocator());
-    push_known_line(out, dir, records, &texts, placed)
+    let known = KnownTexts {
+        dir,
+        records,
+        texts: &texts,
+    };
+    push_known_line(out, &known, placed)
 }
 
 /// The same, but the entries whose texts are known are not made anew.
 pub fn push_known_line(
     out: &mut String,
-    dir: &Directory,
-    records: &[Record],
-    texts: &EntryTexts,
+    known: &KnownTexts<'_>,
     placed: &Placed,
 ) -> Result<(), NoMemory>
-    requires reply { IsReplyOf dir.now records.now placed.now.reply }
-    requires right { AreRight dir.now records.now texts.now }
-    ensures text { OnOk result (string_bytes out.new ≡ string_bytes out.old ++ line_of (reply_data dir.now records.now placed.now)) }
+    requires reply { IsReplyOf known.now.dir.now known.now.records.now placed.now.reply }
+    requires right { AreRight known.now.dir.now known.now.records.now known.now.texts.now }
+    ensures text { OnOk result (string_bytes out.new ≡ string_bytes out.old ++ line_of (reply_data known.now.dir.now known.now.records.now placed.now)) }
 {
-    push_reply(out, dir, records, texts, placed)
+    push_reply(out, known, placed)
 }
 
-fn push_reply(
-    out: &mut String,
-    dir: &Directory,
-    records: &[Record],
-    texts: &EntryTexts,
-    placed: &Placed,
-) -> Result<(), NoMemory>
-    requires reply { IsReplyOf dir.now records.now placed.now.reply }
-    requires right { AreRight dir.now records.now texts.now }
-    ensures { OnOk result (string_bytes out.new ≡ string_bytes out.old ++ spec.reply_text dir.now records.now placed.now.at placed.now.client placed.now.line placed.now.reply) }
+fn push_reply(out: &mut String, known: &KnownTexts<'_>, placed: &Placed) -> Result<(), NoMemory>
+    requires reply { IsReplyOf known.now.dir.now known.now.records.now placed.now.reply }
+    requires right { AreRight known.now.dir.now known.now.records.now known.now.texts.now }
+    ensures { OnOk result (string_bytes out.new ≡ string_bytes out.old
+        ++ spec.reply_text known.now.dir.now known.now.records.now placed.now.at placed.now.client placed.now.line placed.now.reply) }
 {
     match &placed.reply {
         Reply::Put { was } => push_short(out, placed, Some(*was), 200),
         Reply::Exists => push_short(out, placed, None, 412),
         Reply::Deleted => push_short(out, placed, None, 204),
-        Reply::Found { val } => push_found(out, placed, &records[*val as usize]),
+        Reply::Found { val } => push_found(out, placed, &known.records[*val as usize]),
         Reply::Missing => push_short(out, placed, None, 404),
         Reply::Listed { query, page } => {
-            push_listing(out, dir, records, texts, placed, query.get(), page.get())
+            push_listing(out, known, placed, query.get(), page.get())
         }
         Reply::ListedV1 { query, page } => {
-            push_v1_listing(out, dir, records, texts, placed, query.get(), page.get())
+            push_v1_listing(out, known, placed, query.get(), page.get())
         }
         Reply::BadToken => push_short(out, placed, None, 400),
         Reply::NoSlot => push_short(out, placed, None, 503),

@@ -10,6 +10,7 @@ mod pages;
 mod pool;
 mod pooled;
 mod run;
+mod turns;
 mod updates;
 mod v1_pages;
 

@@ -11,10 +11,10 @@ ghost use Rattle.client_run.specs.Listing.{HasPageInRange, ListedAs};
 ghost use Rattle.client_run.specs.Starts.{IsStartOf, IsStartBehind, resumed, resumed_at};
 
 use crate::listing::list_known;
+use crate::turns::Turn;
 use crate::updates::{answer_at, refused};
 use bucket_terms::{KeyPass, ListQuery, Page, Placed, Reply, Shared, Token, TokenPoint};
 use key_names::{Directory, NoMemory};
-use page_rules::KnownPrefixes;
 use page_token::TokenError;
 use std::alloc::Global;
 use std::sync::Wait;
@@ -136,52 +136,49 @@ pub(crate) fn list_request<P: KeyPass, Rt: Wait>(
     rt: &Rt,
     alloc: Global,
     pass: &mut P,
-    known: &KnownPrefixes<'_>,
-    line: u32,
+    turn: &Turn<'_, '_>,
     query: &Shared<ListQuery>,
 ) -> Result<Placed, NoMemory>
     requires closed { (P.view pass.old).opened ≡ None }
-    ensures answers { IfOk result (λ placed. (last : Option Reply) → Answers known.now (P.view pass.old) (P.view pass.new) last (answered line (ListRequest query.now) placed)) }
-    ensures in_range { IfOk result (λ placed. HasPageInRange known.now placed.reply) }
+    ensures answers { IfOk result (λ placed. (last : Option Reply) → Answers turn.now.known.now (P.view pass.old) (P.view pass.new) last (answered turn.now.asked.now.line (ListRequest query.now) placed)) }
+    ensures in_range { IfOk result (λ placed. HasPageInRange turn.now.known.now placed.reply) }
     ensures stopped { OnErr result (Stopped (P.view pass.old) (P.view pass.new)) }
     ensures home { P.home pass.new ≡ P.home pass.old }
 {
     match start_of(alloc, query.get())? {
         Start::First => {
             let query = query.share()?;
-            listed(rt, alloc, pass, known, line, query, None)
+            listed(rt, alloc, pass, turn, query, None)
         }
         Start::Behind(point) => {
             let query = query.share()?;
-            listed(rt, alloc, pass, known, line, query, Some(point))
+            listed(rt, alloc, pass, turn, query, Some(point))
         }
-        Start::Bad => Ok(refused(pass.client(), line, Reply::BadToken)),
+        Start::Bad => Ok(refused(pass.client(), turn.asked.line, Reply::BadToken)),
     }
 }
 
-// Answers a NEXT; `last` is the reply of the client's last listing.
+// Answers a NEXT.
 pub(crate) fn next_request<P: KeyPass, Rt: Wait>(
     rt: &Rt,
     alloc: Global,
     pass: &mut P,
-    known: &KnownPrefixes<'_>,
-    line: u32,
-    last: Option<&Reply>,
+    turn: &Turn<'_, '_>,
 ) -> Result<Placed, NoMemory>
     requires closed { (P.view pass.old).opened ≡ None }
-    requires in_range { ForSome (option_copied last) (HasPageInRange known.now) }
-    ensures answers { IfOk result (λ placed. Answers known.now (P.view pass.old) (P.view pass.new) (option_copied last.entry) (answered line Next placed)) }
-    ensures in_range { IfOk result (λ placed. HasPageInRange known.now placed.reply) }
+    requires in_range { ForSome (option_copied turn.now.last) (HasPageInRange turn.now.known.now) }
+    ensures answers { IfOk result (λ placed. Answers turn.now.known.now (P.view pass.old) (P.view pass.new) (option_copied turn.now.last) (answered turn.now.asked.now.line Next placed)) }
+    ensures in_range { IfOk result (λ placed. HasPageInRange turn.now.known.now placed.reply) }
     ensures stopped { OnErr result (Stopped (P.view pass.old) (P.view pass.new)) }
     ensures home { P.home pass.new ≡ P.home pass.old }
 {
-    match resume(alloc, known.directory(), last)? {
+    match resume(alloc, turn.known.directory(), turn.last)? {
         Some(next) => {
             let Resumption { query, point } = next;
             let query = Shared::new(alloc, query)?;
-            listed(rt, alloc, pass, known, line, query, Some(point))
+            listed(rt, alloc, pass, turn, query, Some(point))
         }
-        None => Ok(refused(pass.client(), line, Reply::BadToken)),
+        None => Ok(refused(pass.client(), turn.asked.line, Reply::BadToken)),
     }
 }
 
@@ -190,18 +187,17 @@ fn listed<P: KeyPass, Rt: Wait>(
     rt: &Rt,
     alloc: Global,
     pass: &mut P,
-    known: &KnownPrefixes<'_>,
-    line: u32,
+    turn: &Turn<'_, '_>,
     query: Shared<ListQuery>,
     point: Option<TokenPoint>,
 ) -> Result<Placed, NoMemory>
     requires closed { (P.view pass.old).opened ≡ None }
-    ensures answer { IfOk result (ListedAs known.now query point line (P.view pass.old) (P.view pass.new)) }
+    ensures answer { IfOk result (ListedAs turn.now.known.now query point turn.now.asked.now.line (P.view pass.old) (P.view pass.new)) }
     ensures stopped { OnErr result (Stopped (P.view pass.old) (P.view pass.new)) }
     ensures home { P.home pass.new ≡ P.home pass.old }
 {
     let client = pass.client();
-    let (at, page) = list_known(rt, alloc, pass, known, query.get(), point.as_ref())?;
+    let (at, page) = list_known(rt, alloc, pass, turn.known, query.get(), point.as_ref())?;
     let page = Shared::new(alloc, page)?;
-    Ok(answer_at(client, line, at, Reply::Listed { query, page }))
+    Ok(answer_at(client, turn.asked.line, at, Reply::Listed { query, page }))
 }

@@ -12,13 +12,13 @@ ghost use Rattle.client_run.specs.ClientRun.{IsLaterLine, Stopped};
 ghost use Rattle.client_run.specs.Pooling.{AnswersPooled, HasGrown, RanPooled};
 
 use crate::Gate;
-use crate::hints::{Hint, Hints};
+use crate::hints::Hints;
 use crate::pool::{hand_over, top_up};
 use crate::run::{answer, known_prefixes, later_listing, reply_at};
-use bucket_terms::{Placed, PoolPass, Reply};
+use crate::turns::Turn;
+use bucket_terms::{Placed, PoolPass};
 use key_names::{Directory, NoMemory};
-use page_rules::KnownPrefixes;
-use request_lines::{Asked, ClientPart, is_update};
+use request_lines::{ClientPart, is_update};
 use slot_depot::{Depot, DepotSeat};
 use std::alloc::Global;
 use std::sync::Wait;
@@ -59,19 +59,15 @@ pub fn run_pooled<P: PoolPass, G: Gate, Rt: Wait>(
     for asked in part.requests.as_slice() {
         let place = replies.len();
         let hint = hints.at(dir, &part.requests, place);
-        gate.before(client, asked.line);
-        let placed = answer_pooled(
-            rt,
-            alloc,
-            pass,
-            &known,
+        let last_reply = reply_at(&replies, last);
+        let turn = Turn {
+            known: &known,
             asked,
             hint,
-            reply_at(&replies, last),
-            depot,
-            seat,
-            own,
-        )?;
+            last: last_reply,
+        };
+        gate.before(client, asked.line);
+        let placed = answer_pooled(rt, alloc, pass, &turn, depot, seat, own)?;
         gate.after(client, asked.line);
         last = later_listing(last, &asked.request, place);
         replies.push(placed)?;
@@ -79,39 +75,36 @@ pub fn run_pooled<P: PoolPass, G: Gate, Rt: Wait>(
     Ok(replies)
 }
 
-// Answers one request, with trades around an update; `hint` and `last` as for `answer`.
+// Answers one request, with trades around an update.
 fn answer_pooled<P: PoolPass, Rt: Wait>(
     rt: &Rt,
     alloc: Global,
     pass: &mut P,
-    known: &KnownPrefixes<'_>,
-    asked: &Asked,
-    hint: Hint,
-    last: Option<&Reply>,
+    turn: &Turn<'_, '_>,
     depot: &Depot<P::Parcel>,
     seat: &mut DepotSeat<P::Parcel>,
     own: u32,
 ) -> Result<Placed, NoMemory>
     requires closed { (P.view pass.old).opened ≡ None }
-    requires askable { IsAskable known.now (request_line asked.now) }
-    requires calls { updates_in (request_line asked.now ∷ []) ≤ (P.view pass.old).left }
-    requires later { IsLaterLine (P.view pass.old) asked.now.line }
+    requires askable { IsAskable turn.now.known.now (request_line turn.now.asked.now) }
+    requires calls { updates_in (request_line turn.now.asked.now ∷ []) ≤ (P.view pass.old).left }
+    requires later { IsLaterLine (P.view pass.old) turn.now.asked.now.line }
     requires knows { KnowsOwn (P.view pass.old) }
-    requires in_range { ForSome (option_copied last) (HasPageInRange known.now) }
+    requires in_range { ForSome (option_copied turn.now.last) (HasPageInRange turn.now.known.now) }
     requires seat { IsSeatOf depot.now seat.old }
     requires of { seat.old.book.terms.home ≡ P.home pass.old }
-    ensures answers { IfOk result (λ placed. AnswersPooled known.now own (P.view pass.old) (P.view pass.new) (P.free_nodes pass.new) (option_copied last.entry) (record { asked = request_line asked.now; placed = placed }) seat.old.book seat.new.book) }
-    ensures in_range { IfOk result (λ placed. HasPageInRange known.now placed.reply) }
+    ensures answers { IfOk result (λ placed. AnswersPooled turn.now.known.now own (P.view pass.old) (P.view pass.new) (P.free_nodes pass.new) (option_copied turn.now.last) (record { asked = request_line turn.now.asked.now; placed = placed }) seat.old.book seat.new.book) }
+    ensures in_range { IfOk result (λ placed. HasPageInRange turn.now.known.now placed.reply) }
     ensures stopped { OnErr result (Stopped (P.view pass.old) (P.view pass.new)) }
     ensures grown { HasGrown seat.old.book seat.new.book }
     ensures seat { IsSameSeat seat.old seat.new }
     ensures home { P.home pass.new ≡ P.home pass.old }
 {
-    if !is_update(&asked.request) {
-        return answer(rt, alloc, pass, known, asked, hint, last);
+    if !is_update(&turn.asked.request) {
+        return answer(rt, alloc, pass, turn);
     }
     top_up(rt, pass, depot, seat);
-    let placed = answer(rt, alloc, pass, known, asked, hint, last)?;
+    let placed = answer(rt, alloc, pass, turn)?;
     hand_over(rt, pass, depot, seat, own);
     Ok(placed)
 }

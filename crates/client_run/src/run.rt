@@ -8,12 +8,13 @@ ghost use Rattle.client_run.specs.Listing.{HasPageInRange};
 ghost use Rattle.client_run.specs.ClientRun.{Answers, RanClient, IsLaterLine, Stopped};
 ghost use Rattle.request_lines.specs.SessionLaws.{IsAskable, Rise};
 
-use crate::hints::{Hint, Hints};
+use crate::hints::Hints;
+use crate::turns::Turn;
 use crate::{Gate, pages, updates, v1_pages};
 use bucket_terms::{KeyPass, Placed, Reply, Request};
 use key_names::{Directory, NoMemory};
 use page_rules::KnownPrefixes;
-use request_lines::{Asked, ClientPart};
+use request_lines::ClientPart;
 use std::alloc::Global;
 use std::sync::Wait;
 
@@ -46,8 +47,14 @@ pub fn run_client<P: KeyPass, G: Gate, Rt: Wait>(
         let place = replies.len();
         let hint = hints.at(dir, &part.requests, place);
         let last_reply = reply_at(&replies, last);
+        let turn = Turn {
+            known: &known,
+            asked,
+            hint,
+            last: last_reply,
+        };
         gate.before(client, asked.line);
-        let placed = answer(rt, alloc, pass, &known, asked, hint, last_reply)?;
+        let placed = answer(rt, alloc, pass, &turn)?;
         gate.after(client, asked.line);
         last = later_listing(last, &asked.request, place);
         replies.push(placed)?;
@@ -74,41 +81,31 @@ pub(crate) fn known_prefixes<'a>(
     Ok(known)
 }
 
-// Answers one request; `hint` is where the directory may have its name, `last` the reply of the client's last listing.
+// Answers one request.
 pub(crate) fn answer<P: KeyPass, Rt: Wait>(
     rt: &Rt,
     alloc: Global,
     pass: &mut P,
-    known: &KnownPrefixes<'_>,
-    asked: &Asked,
-    hint: Hint,
-    last: Option<&Reply>,
+    turn: &Turn<'_, '_>,
 ) -> Result<Placed, NoMemory>
     requires closed { (P.view pass.old).opened ≡ None }
-    requires askable { IsAskable known.now (request_line asked.now) }
-    requires calls { updates_in (request_line asked.now ∷ []) ≤ (P.view pass.old).left }
-    requires later { IsLaterLine (P.view pass.old) asked.now.line }
-    requires in_range { ForSome (option_copied last) (HasPageInRange known.now) }
-    ensures answers { IfOk result (λ placed. Answers known.now (P.view pass.old) (P.view pass.new) (option_copied last.entry) (record { asked = request_line asked.now; placed = placed })) }
-    ensures in_range { IfOk result (λ placed. HasPageInRange known.now placed.reply) }
+    requires askable { IsAskable turn.now.known.now (request_line turn.now.asked.now) }
+    requires calls { updates_in (request_line turn.now.asked.now ∷ []) ≤ (P.view pass.old).left }
+    requires later { IsLaterLine (P.view pass.old) turn.now.asked.now.line }
+    requires in_range { ForSome (option_copied turn.now.last) (HasPageInRange turn.now.known.now) }
+    ensures answers { IfOk result (λ placed. Answers turn.now.known.now (P.view pass.old) (P.view pass.new) (option_copied turn.now.last) (record { asked = request_line turn.now.asked.now; placed = placed })) }
+    ensures in_range { IfOk result (λ placed. HasPageInRange turn.now.known.now placed.reply) }
     ensures stopped { OnErr result (Stopped (P.view pass.old) (P.view pass.new)) }
     ensures home { P.home pass.new ≡ P.home pass.old }
 {
-    let dir = known.directory();
-    match &asked.request {
-        Request::Put { name, val } => {
-            Ok(updates::put(rt, pass, dir, asked.line, name, hint, *val))
-        }
-        Request::PutNew { name, val } => {
-            Ok(updates::put_new(rt, pass, dir, asked.line, name, hint, *val))
-        }
-        Request::Delete { name } => Ok(updates::delete(rt, pass, dir, asked.line, name, hint)),
-        Request::Head { name } => Ok(updates::head(rt, pass, dir, asked.line, name, hint)),
-        Request::List(query) => { pages::list_request(rt, alloc, pass, known, asked.line, query) },
-        Request::ListV1(query) => {
-            v1_pages::v1_request(rt, alloc, pass, known, asked.line, query)
-        },
-        Request::Next => pages::next_request(rt, alloc, pass, known, asked.line, last),
+    match &turn.asked.request {
+        Request::Put { name, val } => Ok(updates::put(rt, pass, turn, name, *val)),
+        Request::PutNew { name, val } => Ok(updates::put_new(rt, pass, turn, name, *val)),
+        Request::Delete { name } => Ok(updates::delete(rt, pass, turn, name)),
+        Request::Head { name } => Ok(updates::head(rt, pass, turn, name)),
+        Request::List(query) => pages::list_request(rt, alloc, pass, turn, query),
+        Request::ListV1(query) => v1_pages::v1_request(rt, alloc, pass, turn, query),
+        Request::Next => pages::next_request(rt, alloc, pass, turn),
     }
 }
 

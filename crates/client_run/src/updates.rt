@@ -11,6 +11,7 @@ ghost use Rattle.client_run.specs.ClientRun.{answered, Answers, IsLaterLine};
 ghost use Rattle.client_run.specs.Listing.{HasPageInRange};
 
 use crate::hints::Hint;
+use crate::turns::Turn;
 use bucket_terms::{KeyPass, Placed, Reply};
 use key_map::{New, PassError};
 use key_names::{Directory, Text};
@@ -24,23 +25,17 @@ struct Target {
 }
 
 // What comes before each update: the rank of its name, and the entries that the pass lacks.
-fn prepare<P: KeyPass, Rt: Wait>(
-    rt: &Rt,
-    pass: &mut P,
-    dir: &Directory,
-    name: &Text,
-    hint: Hint,
-) -> Target
+fn prepare<P: KeyPass, Rt: Wait>(rt: &Rt, pass: &mut P, turn: &Turn<'_, '_>, name: &Text) -> Target
     requires closed { (P.view pass.old).opened ≡ None }
-    requires known { Contains dir.now name.now }
+    requires known { Contains turn.now.known.now name.now }
     ensures number { result.client ≡ (P.view pass.old).number }
     ensures mine { KnowsOwn (P.view pass.old) }
-    ensures rank { IsRank dir.now name.now result.key }
+    ensures rank { IsRank turn.now.known.now name.now result.key }
     ensures gathered { Gathered (P.view pass.old) (P.view pass.new) }
     ensures home { P.home pass.new ≡ P.home pass.old }
 {
     let client = pass.client();
-    let key = rank_of(dir, name, hint);
+    let key = rank_of(turn.known.directory(), name, turn.hint);
     pass.gather(rt);
     Target { client, key }
 }
@@ -49,20 +44,19 @@ fn prepare<P: KeyPass, Rt: Wait>(
 pub(crate) fn put<P: KeyPass, Rt: Wait>(
     rt: &Rt,
     pass: &mut P,
-    dir: &Directory,
-    line: u32,
+    turn: &Turn<'_, '_>,
     name: &Text,
-    hint: Hint,
     val: u64,
 ) -> Placed
     requires closed { (P.view pass.old).opened ≡ None }
     requires left { 0 < (P.view pass.old).left }
-    requires known { Contains dir.now name.now }
-    ensures answers { (last : Option Reply) → Answers dir.now (P.view pass.old) (P.view pass.new) last (answered line (Put name.now val) result) }
-    ensures in_range { HasPageInRange dir.now result.reply }
+    requires known { Contains turn.now.known.now name.now }
+    ensures answers { (last : Option Reply) → Answers turn.now.known.now (P.view pass.old) (P.view pass.new) last (answered turn.now.asked.now.line (Put name.now val) result) }
+    ensures in_range { HasPageInRange turn.now.known.now result.reply }
     ensures home { P.home pass.new ≡ P.home pass.old }
 {
-    let target = prepare(rt, pass, dir, name, hint);
+    let line = turn.asked.line;
+    let target = prepare(rt, pass, turn, name);
     match pass.put(rt, line, target.key, val) {
         Ok(done) => answer_at(target.client, line, done.at, Reply::Put { was: done.was }),
         Err(PassError::NoSlot) => refused(target.client, line, Reply::NoSlot),
@@ -74,21 +68,20 @@ pub(crate) fn put<P: KeyPass, Rt: Wait>(
 pub(crate) fn put_new<P: KeyPass, Rt: Wait>(
     rt: &Rt,
     pass: &mut P,
-    dir: &Directory,
-    line: u32,
+    turn: &Turn<'_, '_>,
     name: &Text,
-    hint: Hint,
     val: u64,
 ) -> Placed
     requires closed { (P.view pass.old).opened ≡ None }
     requires left { 0 < (P.view pass.old).left }
-    requires later { IsLaterLine (P.view pass.old) line }
-    requires known { Contains dir.now name.now }
-    ensures answers { (last : Option Reply) → Answers dir.now (P.view pass.old) (P.view pass.new) last (answered line (PutNew name.now val) result) }
-    ensures in_range { HasPageInRange dir.now result.reply }
+    requires later { IsLaterLine (P.view pass.old) turn.now.asked.now.line }
+    requires known { Contains turn.now.known.now name.now }
+    ensures answers { (last : Option Reply) → Answers turn.now.known.now (P.view pass.old) (P.view pass.new) last (answered turn.now.asked.now.line (PutNew name.now val) result) }
+    ensures in_range { HasPageInRange turn.now.known.now result.reply }
     ensures home { P.home pass.new ≡ P.home pass.old }
 {
-    let target = prepare(rt, pass, dir, name, hint);
+    let line = turn.asked.line;
+    let target = prepare(rt, pass, turn, name);
     match pass.put_new(rt, line, target.key, val) {
         Ok(New::Made { at }) => answer_at(target.client, line, at, Reply::Put { was: false }),
         Ok(New::Kept { at }) => answer_at(target.client, line, at, Reply::Exists),
@@ -101,20 +94,19 @@ pub(crate) fn put_new<P: KeyPass, Rt: Wait>(
 pub(crate) fn delete<P: KeyPass, Rt: Wait>(
     rt: &Rt,
     pass: &mut P,
-    dir: &Directory,
-    line: u32,
+    turn: &Turn<'_, '_>,
     name: &Text,
-    hint: Hint,
 ) -> Placed
     requires closed { (P.view pass.old).opened ≡ None }
     requires left { 0 < (P.view pass.old).left }
-    requires later { IsLaterLine (P.view pass.old) line }
-    requires known { Contains dir.now name.now }
-    ensures answers { (last : Option Reply) → Answers dir.now (P.view pass.old) (P.view pass.new) last (answered line (Delete name.now) result) }
-    ensures in_range { HasPageInRange dir.now result.reply }
+    requires later { IsLaterLine (P.view pass.old) turn.now.asked.now.line }
+    requires known { Contains turn.now.known.now name.now }
+    ensures answers { (last : Option Reply) → Answers turn.now.known.now (P.view pass.old) (P.view pass.new) last (answered turn.now.asked.now.line (Delete name.now) result) }
+    ensures in_range { HasPageInRange turn.now.known.now result.reply }
     ensures home { P.home pass.new ≡ P.home pass.old }
 {
-    let target = prepare(rt, pass, dir, name, hint);
+    let line = turn.asked.line;
+    let target = prepare(rt, pass, turn, name);
     match pass.remove(rt, line, target.key) {
         Ok(done) => answer_at(target.client, line, done.at, Reply::Deleted),
         Err(PassError::NoSlot) => refused(target.client, line, Reply::NoSlot),
@@ -126,23 +118,21 @@ pub(crate) fn delete<P: KeyPass, Rt: Wait>(
 pub(crate) fn head<P: KeyPass, Rt: Wait>(
     rt: &Rt,
     pass: &mut P,
-    dir: &Directory,
-    line: u32,
+    turn: &Turn<'_, '_>,
     name: &Text,
-    hint: Hint,
 ) -> Placed
     requires closed { (P.view pass.old).opened ≡ None }
-    requires known { Contains dir.now name.now }
-    ensures answers { (last : Option Reply) → Answers dir.now (P.view pass.old) (P.view pass.new) last (answered line (Head name.now) result) }
-    ensures in_range { HasPageInRange dir.now result.reply }
+    requires known { Contains turn.now.known.now name.now }
+    ensures answers { (last : Option Reply) → Answers turn.now.known.now (P.view pass.old) (P.view pass.new) last (answered turn.now.asked.now.line (Head name.now) result) }
+    ensures in_range { HasPageInRange turn.now.known.now result.reply }
     ensures home { P.home pass.new ≡ P.home pass.old }
 {
     let client = pass.client();
-    let key = rank_of(dir, name, hint);
+    let key = rank_of(turn.known.directory(), name, turn.hint);
     let at = pass.begin();
     let found = pass.value_of(rt, key);
     pass.end();
-    answer_at(client, line, at, head_reply(found))
+    answer_at(client, turn.asked.line, at, head_reply(found))
 }
 
 // The answer of a HEAD that found this value.

@@ -6,11 +6,11 @@ ghost use Rattle.client_run.specs.ClientRun.{answered, Answers, Stopped};
 ghost use Rattle.client_run.specs.Listing.{HasPageInRange, ListedV1As};
 
 use crate::listing::list_known;
+use crate::turns::Turn;
 use crate::updates::answer_at;
 use bucket_terms::{KeyPass, ListQuery, Placed, Reply, Shared, TokenPoint, V1Query};
 use key_names::NoMemory;
 use list_v1::{plain_query, point_of};
-use page_rules::KnownPrefixes;
 use std::alloc::Global;
 use std::sync::Wait;
 
@@ -19,13 +19,12 @@ pub(crate) fn v1_request<P: KeyPass, Rt: Wait>(
     rt: &Rt,
     alloc: Global,
     pass: &mut P,
-    known: &KnownPrefixes<'_>,
-    line: u32,
+    turn: &Turn<'_, '_>,
     query: &Shared<V1Query>,
 ) -> Result<Placed, NoMemory>
     requires closed { (P.view pass.old).opened ≡ None }
-    ensures answers { IfOk result (λ placed. (last : Option Reply) → Answers known.now (P.view pass.old) (P.view pass.new) last (answered line (ListV1 query.now) placed)) }
-    ensures in_range { IfOk result (λ placed. HasPageInRange known.now placed.reply) }
+    ensures answers { IfOk result (λ placed. (last : Option Reply) → Answers turn.now.known.now (P.view pass.old) (P.view pass.new) last (answered turn.now.asked.now.line (ListV1 query.now) placed)) }
+    ensures in_range { IfOk result (λ placed. HasPageInRange turn.now.known.now placed.reply) }
     ensures stopped { OnErr result (Stopped (P.view pass.old) (P.view pass.new)) }
     ensures home { P.home pass.new ≡ P.home pass.old }
 {
@@ -33,27 +32,43 @@ pub(crate) fn v1_request<P: KeyPass, Rt: Wait>(
     let plain = plain_query(alloc, asked)?;
     let point = point_of(alloc, asked)?;
     let shown = query.share()?;
-    listed_v1(rt, alloc, pass, known, line, shown, plain, point)
+    let listing = PlainListing {
+        query: plain,
+        point,
+    };
+    listed_v1(rt, alloc, pass, turn, shown, listing)
 }
 
-// The reply that shows the query, with the page of the plain query, from a point on.
+// The listing of version 2 whose page is shown: its query, and the point from which the page goes on.
+#[derive(Drop)]
+struct PlainListing {
+    query: ListQuery,
+    point: Option<TokenPoint>,
+}
+
+// The reply that shows the query, with the page of the plain listing.
 fn listed_v1<P: KeyPass, Rt: Wait>(
     rt: &Rt,
     alloc: Global,
     pass: &mut P,
-    known: &KnownPrefixes<'_>,
-    line: u32,
+    turn: &Turn<'_, '_>,
     query: Shared<V1Query>,
-    plain: ListQuery,
-    point: Option<TokenPoint>,
+    listing: PlainListing,
 ) -> Result<Placed, NoMemory>
     requires closed { (P.view pass.old).opened ≡ None }
-    ensures answer { IfOk result (ListedV1As known.now query plain point line (P.view pass.old) (P.view pass.new)) }
+    ensures answer { IfOk result (ListedV1As turn.now.known.now query listing.query listing.point turn.now.asked.now.line (P.view pass.old) (P.view pass.new)) }
     ensures stopped { OnErr result (Stopped (P.view pass.old) (P.view pass.new)) }
     ensures home { P.home pass.new ≡ P.home pass.old }
 {
     let client = pass.client();
-    let (at, page) = list_known(rt, alloc, pass, known, &plain, point.as_ref())?;
+    let (at, page) = list_known(
+        rt,
+        alloc,
+        pass,
+        turn.known,
+        &listing.query,
+        listing.point.as_ref(),
+    )?;
     let page = Shared::new(alloc, page)?;
-    Ok(answer_at(client, line, at, Reply::ListedV1 { query, page }))
+    Ok(answer_at(client, turn.asked.line, at, Reply::ListedV1 { query, page }))
 }

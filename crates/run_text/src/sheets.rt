@@ -14,8 +14,8 @@ ghost use Rattle.run_text.specs.Sheets.{IsFilled};
 use crate::lines::write_lines;
 use crate::pieces::{Part, Piece};
 use crate::stop::Stop;
-use answer_text::{EntryTexts, push_journal_line, push_known_line};
-use bucket_terms::{Placed, Record};
+use answer_text::{KnownTexts, push_journal_line, push_known_line};
+use bucket_terms::Placed;
 use key_map::Update;
 use key_names::{Directory, NoMemory};
 use outside_io::Sink;
@@ -59,56 +59,38 @@ impl Sheet {
     /// Replaces what the sheet had by the text of the piece. The sheet is filled on the stack of its thread: those of
     /// other threads are next to it in memory, and if two processors write into one cache line by turns, each waits
     /// for the other at every write.
-    pub(crate) fn fill(
-        &mut self,
-        dir: &Directory,
-        records: &[Record],
-        texts: &EntryTexts,
-        piece: &Piece<'_>,
-    )
-        requires piece { IsPieceOf dir.now records.now piece.now }
-        requires right { AreRight dir.now records.now texts.now }
-        ensures { IsFilled dir.now records.now piece.now self.new }
+    pub(crate) fn fill(&mut self, known: &KnownTexts<'_>, piece: &Piece<'_>)
+        requires piece { IsPieceOf known.now.dir.now known.now.records.now piece.now }
+        requires right { AreRight known.now.dir.now known.now.records.now known.now.texts.now }
+        ensures { IsFilled known.now.dir.now known.now.records.now piece.now self.new }
     {
         let empty = Sheet::empty(*self.text.allocator());
         let mut sheet = mem::replace(self, empty);
         sheet.text.clear();
         sheet.ends.clear();
-        sheet.filled = sheet.push_piece(dir, records, texts, piece);
+        sheet.filled = sheet.push_piece(known, piece);
         *self = sheet;
     }
 
-    fn push_piece(
-        &mut self,
-        dir: &Directory,
-        records: &[Record],
-        texts: &EntryTexts,
-        piece: &Piece<'_>,
-    ) -> Result<(), NoMemory>
-        requires piece { IsPieceOf dir.now records.now piece.now }
-        requires right { AreRight dir.now records.now texts.now }
-        ensures { OnOk result (string_bytes self.new.text ≡ string_bytes self.old.text ++ part_text dir.now records.now piece.now.part) }
+    fn push_piece(&mut self, known: &KnownTexts<'_>, piece: &Piece<'_>) -> Result<(), NoMemory>
+        requires piece { IsPieceOf known.now.dir.now known.now.records.now piece.now }
+        requires right { AreRight known.now.dir.now known.now.records.now known.now.texts.now }
+        ensures { OnOk result (string_bytes self.new.text ≡ string_bytes self.old.text ++ part_text known.now.dir.now known.now.records.now piece.now.part) }
     {
         self.text.reserve(piece.bytes)?;
         match &piece.part {
-            Part::Replies(replies) => self.push_replies(dir, records, texts, replies),
-            Part::Updates { before, updates } => self.push_updates(dir, *before, updates),
+            Part::Replies(replies) => self.push_replies(known, replies),
+            Part::Updates { before, updates } => self.push_updates(known.dir, *before, updates),
         }
     }
 
-    fn push_replies(
-        &mut self,
-        dir: &Directory,
-        records: &[Record],
-        texts: &EntryTexts,
-        replies: &[Placed],
-    ) -> Result<(), NoMemory>
-        requires fine { All (λ (p : Placed). IsReplyOf dir.now records.now p.reply) replies.now }
-        requires right { AreRight dir.now records.now texts.now }
-        ensures { OnOk result (string_bytes self.new.text ≡ string_bytes self.old.text ++ reply_lines dir.now records.now replies.now) }
+    fn push_replies(&mut self, known: &KnownTexts<'_>, replies: &[Placed]) -> Result<(), NoMemory>
+        requires fine { All (λ (p : Placed). IsReplyOf known.now.dir.now known.now.records.now p.reply) replies.now }
+        requires right { AreRight known.now.dir.now known.now.records.now known.now.texts.now }
+        ensures { OnOk result (string_bytes self.new.text ≡ string_bytes self.old.text ++ reply_lines known.now.dir.now known.now.records.now replies.now) }
     {
         for placed in replies {
-            push_known_line(&mut self.text, dir, records, texts, placed)?;
+            push_known_line(&mut self.text, known, placed)?;
             self.ends.push(self.text.len())?;
         }
         Ok(())

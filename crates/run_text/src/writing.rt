@@ -6,12 +6,12 @@ ghost use Rattle.run_text.specs.declared.stop.Stop.{Stop as Ended};
 ghost use Rattle.run_text.specs.Pieces.{IsPieceOf, pieces_text};
 ghost use Rattle.run_text.specs.Sheets.{Writes};
 
-use crate::batches::{fill_all, write_beside};
+use crate::batches::{Batch, fill_all, write_beside};
 use crate::entries::entry_texts;
 use crate::pieces::{PIECE_BYTES, Piece, Pieces};
 use crate::sheets::Sheet;
 use crate::stop::Stop;
-use answer_text::EntryTexts;
+use answer_text::KnownTexts;
 use bucket_terms::Record;
 use key_names::{Directory, NoMemory};
 use outside_io::Sink;
@@ -40,7 +40,12 @@ impl<'a> Pieces<'a> {
         let pieces = self.pieces.as_slice();
         let threads = at_once(rt, pieces);
         let texts = entry_texts(rt, alloc, dir, records, pieces, threads)?;
-        write_pieces(rt, alloc, sink, dir, records, &texts, pieces, threads)
+        let known = KnownTexts {
+            dir,
+            records,
+            texts: &texts,
+        };
+        write_pieces(rt, alloc, sink, &known, pieces, threads)
     }
 }
 
@@ -48,16 +53,15 @@ fn write_pieces<K: Sink, Rt: Threads + Sync>(
     rt: &Rt,
     alloc: Global,
     sink: &mut K,
-    dir: &Directory,
-    records: &[Record],
-    texts: &EntryTexts,
+    known: &KnownTexts<'_>,
     pieces: &[Piece<'_>],
     most: usize,
 ) -> Result<(), Stop>
     requires some { 0 < most }
-    requires fine { All (IsPieceOf dir.now records.now) pieces.now }
-    requires right { AreRight dir.now records.now texts.now }
-    ensures { Writes (pieces_text dir.now records.now pieces.now) (K.taken sink.old) (K.taken sink.new) (K.faults sink.old) (K.faults sink.new) result }
+    requires fine { All (IsPieceOf known.now.dir.now known.now.records.now) pieces.now }
+    requires right { AreRight known.now.dir.now known.now.records.now known.now.texts.now }
+    ensures { Writes (pieces_text known.now.dir.now known.now.records.now pieces.now)
+        (K.taken sink.old) (K.taken sink.new) (K.faults sink.old) (K.faults sink.new) result }
 {
     let room = most_room(pieces);
     let mut filled = empty_sheets(alloc, most, room)?;
@@ -68,23 +72,18 @@ fn write_pieces<K: Sink, Rt: Threads + Sync>(
         Room::none()
     };
     let mut spare = empty_sheets(alloc, most, spare_room)?;
-    fill_all(
-        rt,
-        dir,
-        records,
-        texts,
-        batch_at(pieces, 0, most),
-        &mut filled,
-    );
+    fill_all(rt, known, batch_at(pieces, 0, most), &mut filled);
     let mut done = 0;
     while done < pieces.len() {
-        let batch = batch_at(pieces, done, most);
-        let next = batch_at(pieces, done + batch.len(), most);
-        write_beside(
-            rt, sink, dir, records, texts, batch, &filled, next, &mut spare,
-        )?;
+        let front = batch_at(pieces, done, most);
+        let next = batch_at(pieces, done + front.len(), most);
+        let batch = Batch {
+            pieces: front,
+            sheets: &filled,
+        };
+        write_beside(rt, sink, known, &batch, next, &mut spare)?;
         mem::swap(&mut filled, &mut spare);
-        done += batch.len();
+        done += front.len();
     }
     Ok(())
 }

@@ -7,5 +7,5 @@ use Rattle.answer_text.proofs.entries.push_contents.Given as goal
 
 abbrev pub invariant-loop-place : goal.invariant-loop-place
 invariant-loop-place l =
-    string_bytes l.out ++ items_text l.later (items_of (filter_map (content_of l.dir l.records l.url) (drop l.place l.entries)))
-    ≡ string_bytes l.fn.out ++ items_text false (items_of (filter_map (content_of l.dir l.records l.url) l.entries))
+    string_bytes l.out ++ items_text l.later (items_of (filter_map (content_of l.known.dir.now l.known.records.now l.url) (drop l.place l.entries)))
+    ≡ string_bytes l.fn.out ++ items_text false (items_of (filter_map (content_of l.known.dir.now l.known.records.now l.url) l.entries))

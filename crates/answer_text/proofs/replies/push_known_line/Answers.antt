@@ -9,6 +9,6 @@ returns c =
     record {
       text =
           on_ok_weaker c.push_reply.result
-          (λ made. made ∙ ap (λ t. string_bytes c.args.out.now ++ t) (reply_line c.args.dir.now c.args.records.now p.at p.client p.line p.reply))
+          (λ made. made ∙ ap (λ t. string_bytes c.args.out.now ++ t) (reply_line c.args.known.now.dir.now c.args.known.now.records.now p.at p.client p.line p.reply))
           c.push_reply.ensures;
     }

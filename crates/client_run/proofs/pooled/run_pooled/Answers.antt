@@ -50,7 +50,7 @@ answer_pooled-requires-clause-later g c =
 pub answer_pooled-requires-clause-in_range : goal.answer_pooled-requires-clause-in_range
 answer_pooled-requires-clause-in_range g c =
     let replies = c.loop-asked.replies.items in
-    let is : option_copied c.reply_at.result ≡ reply_at replies c.loop-asked.last = c.reply_at.ensures ∙ ap (λ (rs : List Placed). reply_at rs c.loop-asked.last) c.deref.ensures.value in
+    let is : option_copied c.reply_at-last_reply.result ≡ reply_at replies c.loop-asked.last = c.reply_at-last_reply.ensures ∙ ap (λ (rs : List Placed). reply_at rs c.loop-asked.last) c.deref.ensures.value in
     rw c.in_ok-known.ensures (subst (λ (o : Option Reply). ForSome o (HasPageInRange c.args.dir.now)) (sym is) (last_in_range c.args.dir.now replies c.loop-asked.last c.loop-asked.invariant.0.in_range))
 
 pub loop-asked-preserved : goal.loop-asked-preserved
@@ -75,8 +75,8 @@ loop-asked-preserved g c =
     let grown = c.loop-asked.invariant.2 in
     let same = c.loop-asked.invariant.3 in
     let last = c.loop-asked.last in
-    let last_is : option_copied c.reply_at.result ≡ last_listing (answered_lines (take i lines) replies) =
-    c.reply_at.ensures ∙ ap (λ (rs : List Placed). reply_at rs last) c.deref.ensures.value ∙ before.listing in
+    let last_is : option_copied c.reply_at-last_reply.result ≡ last_listing (answered_lines (take i lines) replies) =
+    c.reply_at-last_reply.ensures ∙ ap (λ (rs : List Placed). reply_at rs last) c.deref.ensures.value ∙ before.listing in
     let long : c.len-place.result ≡ length replies = omega arith in
     let later_is : c.later_listing-last.result ≡ (if is_listing (get_or lines i (request_line d)).request then Some (length replies) else last) =
     c.later_listing-last.ensures
@@ -106,5 +106,5 @@ pub returns-in_err-push-clause-stopped : goal.returns-in_err-push-clause-stopped
 returns-in_err-push-clause-stopped g c =
     let view = g.P.KeyPass.view in
     after_error c.from_residual-in_err-push.result
-    (stopped_all c.args.own (view c.args.pass.now) (view c.answer_pooled.new.pass) (stopped_behind c.args.dir.now (capped c.args.own (view c.args.pass.now)) (capped c.args.own (view c.loop-asked.pass)) (capped c.args.own (view c.answer_pooled.new.pass)) (option_copied c.reply_at.result) (record { asked = request_line c.asked-item.result; placed = c.in_ok-placed.placed })
+    (stopped_all c.args.own (view c.args.pass.now) (view c.answer_pooled.new.pass) (stopped_behind c.args.dir.now (capped c.args.own (view c.args.pass.now)) (capped c.args.own (view c.loop-asked.pass)) (capped c.args.own (view c.answer_pooled.new.pass)) (option_copied c.reply_at-last_reply.result) (record { asked = request_line c.asked-item.result; placed = c.in_ok-placed.placed })
     c.loop-asked.invariant.0.running.ran.continues (rw (← c.in_ok-known.ensures) c.in_ok-placed.ensures.answers.answers)))

@@ -14,8 +14,8 @@ returns-in-Ok-clause-answers g c = λ last.
     let knows = c.prepare-target.ensures.mine in
     let gathered = c.prepare-target.ensures.gathered in
     rw (c.answer_at.ensures, c.prepare-target.ensures.number)
-    (gathered_answers c.args.dir.now old mid new last c.args.line (Put c.args.name.now c.args.val) (Some c.in-Ok.done.at) (PutReply c.in-Ok.done.was) knows gathered
-    (put_answers c.args.dir.now mid new last c.args.line c.prepare-target.result.key c.args.val c.args.name.now c.in-Ok.done (gathered.own knows) c.prepare-target.ensures.rank c.in-Ok.ensures.made))
+    (gathered_answers c.args.turn.now.known.now old mid new last c.args.turn.now.asked.now.line (Put c.args.name.now c.args.val) (Some c.in-Ok.done.at) (PutReply c.in-Ok.done.was) knows gathered
+    (put_answers c.args.turn.now.known.now mid new last c.args.turn.now.asked.now.line c.prepare-target.result.key c.args.val c.args.name.now c.in-Ok.done (gathered.own knows) c.prepare-target.ensures.rank c.in-Ok.ensures.made))
 
 pub returns-in-Err-NoSlot-clause-answers : goal.returns-in-Err-NoSlot-clause-answers
 returns-in-Err-NoSlot-clause-answers g c = λ last.
@@ -27,6 +27,6 @@ returns-in-Err-NoSlot-clause-answers g c = λ last.
     let gathered = c.prepare-target.ensures.gathered in
     let short = c.in-Err-NoSlot.ensures.no_slot.0 (ap (λ e. Err e) c.in-Err-NoSlot.field-0-is) in
     rw (c.refused.ensures, c.prepare-target.ensures.number)
-    (gathered_answers c.args.dir.now old mid new last c.args.line (Put c.args.name.now c.args.val) None NoSlot knows gathered
-    (refused_answers c.args.dir.now mid new last c.args.line (Put c.args.name.now c.args.val)
+    (gathered_answers c.args.turn.now.known.now old mid new last c.args.turn.now.asked.now.line (Put c.args.name.now c.args.val) None NoSlot knows gathered
+    (refused_answers c.args.turn.now.known.now mid new last c.args.turn.now.asked.now.line (Put c.args.name.now c.args.val)
     (gathered.own knows) c.in-Err-NoSlot.ensures.unchanged gathered.closed short (λ slots enough. enough short.1)))

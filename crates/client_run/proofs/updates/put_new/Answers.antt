@@ -15,10 +15,10 @@ returns-in-Ok-Made-clause-answers g c = λ last.
     let new = view c.put_new.new.self in
     let knows = c.prepare-target.ensures.mine in
     let gathered = c.prepare-target.ensures.gathered in
-    let made = subst (λ (n : New). AnsweredPutNew mid new c.args.line c.prepare-target.result.key c.args.val n) c.in-Ok-Made.field-0-is c.in-Ok-Made.ensures.answered in
+    let made = subst (λ (n : New). AnsweredPutNew mid new c.args.turn.now.asked.now.line c.prepare-target.result.key c.args.val n) c.in-Ok-Made.field-0-is c.in-Ok-Made.ensures.answered in
     rw (c.answer_at.ensures, c.prepare-target.ensures.number)
-    (gathered_answers c.args.dir.now old mid new last c.args.line (PutNew c.args.name.now c.args.val) (Some c.in-Ok-Made.at) (PutReply false) knows gathered
-    (inserted_answers c.args.dir.now mid new last c.args.line c.prepare-target.result.key c.args.val c.in-Ok-Made.at c.args.name.now
+    (gathered_answers c.args.turn.now.known.now old mid new last c.args.turn.now.asked.now.line (PutNew c.args.name.now c.args.val) (Some c.in-Ok-Made.at) (PutReply false) knows gathered
+    (inserted_answers c.args.turn.now.known.now mid new last c.args.turn.now.asked.now.line c.prepare-target.result.key c.args.val c.in-Ok-Made.at c.args.name.now
     (gathered.own knows) c.prepare-target.ensures.rank made))
 
 pub returns-in-Ok-Kept-clause-answers : goal.returns-in-Ok-Kept-clause-answers
@@ -29,11 +29,11 @@ returns-in-Ok-Kept-clause-answers g c = λ last.
     let new = view c.put_new.new.self in
     let knows = c.prepare-target.ensures.mine in
     let gathered = c.prepare-target.ensures.gathered in
-    let kept = subst (λ (n : New). AnsweredPutNew mid new c.args.line c.prepare-target.result.key c.args.val n) c.in-Ok-Kept.field-0-is c.in-Ok-Kept.ensures.answered in
+    let kept = subst (λ (n : New). AnsweredPutNew mid new c.args.turn.now.asked.now.line c.prepare-target.result.key c.args.val n) c.in-Ok-Kept.field-0-is c.in-Ok-Kept.ensures.answered in
     rw (c.answer_at-in-Ok-Kept.ensures, c.prepare-target.ensures.number)
-    (gathered_answers c.args.dir.now old mid new last c.args.line (PutNew c.args.name.now c.args.val) (Some c.in-Ok-Kept.at) Exists knows gathered
-    (kept_answers c.args.dir.now mid new last c.args.line c.prepare-target.result.key c.args.val c.in-Ok-Kept.at c.args.name.now
-    (gathered.own knows) c.prepare-target.ensures.rank (later_gathered old mid c.args.line knows gathered c.requires.later) kept))
+    (gathered_answers c.args.turn.now.known.now old mid new last c.args.turn.now.asked.now.line (PutNew c.args.name.now c.args.val) (Some c.in-Ok-Kept.at) Exists knows gathered
+    (kept_answers c.args.turn.now.known.now mid new last c.args.turn.now.asked.now.line c.prepare-target.result.key c.args.val c.in-Ok-Kept.at c.args.name.now
+    (gathered.own knows) c.prepare-target.ensures.rank (later_gathered old mid c.args.turn.now.asked.now.line knows gathered c.requires.later) kept))
 
 pub returns-in-Err-NoSlot-clause-answers : goal.returns-in-Err-NoSlot-clause-answers
 returns-in-Err-NoSlot-clause-answers g c = λ last.
@@ -45,6 +45,6 @@ returns-in-Err-NoSlot-clause-answers g c = λ last.
     let gathered = c.prepare-target.ensures.gathered in
     let short = c.in-Err-NoSlot.ensures.no_slot.0 (ap (λ e. Err e) c.in-Err-NoSlot.field-0-is) in
     rw (c.refused.ensures, c.prepare-target.ensures.number)
-    (gathered_answers c.args.dir.now old mid new last c.args.line (PutNew c.args.name.now c.args.val) None NoSlot knows gathered
-    (refused_answers c.args.dir.now mid new last c.args.line (PutNew c.args.name.now c.args.val)
+    (gathered_answers c.args.turn.now.known.now old mid new last c.args.turn.now.asked.now.line (PutNew c.args.name.now c.args.val) None NoSlot knows gathered
+    (refused_answers c.args.turn.now.known.now mid new last c.args.turn.now.asked.now.line (PutNew c.args.name.now c.args.val)
     (gathered.own knows) c.in-Err-NoSlot.ensures.unchanged gathered.closed short (λ slots enough. enough short.1)))

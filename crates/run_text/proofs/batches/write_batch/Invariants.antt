@@ -5,6 +5,6 @@ use Rattle.run_text.proofs.batches.write_batch.Given as goal
 
 abbrev pub invariant-loop-place : goal.invariant-loop-place
 invariant-loop-place g l = record {
-  taken : IsTaken (g.K.Sink.taken l.fn.sink) (g.K.Sink.taken l.sink) (pieces_text l._dir l._records (take l.place l.batch));
+  taken : IsTaken (g.K.Sink.taken l.fn.sink) (g.K.Sink.taken l.sink) (pieces_text l._known.dir.now l._known.records.now (take l.place l.batch.pieces.now));
   quiet : g.K.Sink.faults l.sink ≡ g.K.Sink.faults l.fn.sink;
 }

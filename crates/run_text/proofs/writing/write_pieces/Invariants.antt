@@ -10,8 +10,8 @@ invariant-loop-done g l = record {
   spare : length l.spare.items ≡ l.most;
   filled_room : length l.filled.items ≡ l.most;
   within : l.done ≤ length l.pieces;
-  filled : AreFilled l.dir l.records (take l.most (drop l.done l.pieces)) l.filled.items;
-  taken : IsTaken (g.K.Sink.taken l.fn.sink) (g.K.Sink.taken l.sink) (pieces_text l.dir l.records (take l.done l.pieces));
+  filled : AreFilled l.known.dir.now l.known.records.now (take l.most (drop l.done l.pieces)) l.filled.items;
+  taken : IsTaken (g.K.Sink.taken l.fn.sink) (g.K.Sink.taken l.sink) (pieces_text l.known.dir.now l.known.records.now (take l.done l.pieces));
   quiet : g.K.Sink.faults l.sink ≡ g.K.Sink.faults l.fn.sink;
 }
 

@@ -3,4 +3,4 @@ use Rattle.answer_text.specs.Shown.{reply_lines}
 use Rattle.run_text.proofs.sheets.Sheet.push_replies.Given as goal
 
 abbrev pub invariant-loop-placed : goal.invariant-loop-placed
-invariant-loop-placed l = string_bytes l.self.text ≡ string_bytes l.fn.self.text ++ reply_lines l.dir l.records (take l.placed-index l.replies)
+invariant-loop-placed l = string_bytes l.self.text ≡ string_bytes l.fn.self.text ++ reply_lines l.known.dir.now l.known.records.now (take l.placed-index l.replies)
