@@ -37,6 +37,7 @@ use Rattle.core_invariant.proofs.OneView.{item_from_get, seat_at}
 use Rattle.core_invariant.proofs.Owned.{reachable_live}
 use Rattle.core_laws.specs.Alone.{AnotherPass, HasLocked, HasPending, HasMovedHead, HasTakenOut, IsStoredBy, MetByOthers, MeetsNothing, OthersLaw, NothingLaw, AloneLaw}
 use Rattle.core_laws.specs.Counts.{MeetsLock, FindsNoNumber, FindsOther, FindsOtherHead, FindsMark}
+use Rattle.core_laws.proofs.Changers.{link_since, tag_since}
 use Rattle.core_laws.proofs.CountFacts.{number_some}
 use Rattle.core_laws.proofs.Counts.{counts_law}
 use Rattle.core_laws.proofs.Owners.{found_at}
@@ -150,6 +151,8 @@ module _ (t : Table) (e : Event) (right : IsRight t) (v : View) (at : IsItem t.v
     lock = λ p. lock_by word refl (needs_of TryLock p.kind) p;
     number = number_by;
     head = head_by;
+    link = link_since t e v;
+    tag = tag_since t e v;
     mark = λ p. mark_by word refl (needs_of LoadMark p.kind) p;
   }
 

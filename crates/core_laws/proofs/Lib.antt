@@ -1,3 +1,5 @@
+-- Who changes a plain link, or its tag, and since when.
+pub mod Changers
 -- The law on trees.
 pub mod TreeLaw
 -- The null links and the gaps of a tree, as far as the list of its nodes tells them.

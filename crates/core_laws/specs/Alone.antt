@@ -4,7 +4,7 @@ use Rattle.std.specs.Prelude.{◌≡◌, ◌≢◌, ℕ, ◌+◌, ◌<◌, ◌�
 use Rattle.std.specs.List.{slice_get}
 use Rattle.index_words.specs.declared.side.Side.{Side}
 use Rattle.index_words.specs.declared.view.View.{View}
-use Rattle.index_words.specs.declared.word.Field.TheVariants.{Lock, Mark, Head}
+use Rattle.index_words.specs.declared.word.Field.TheVariants.{Lock, Mark, Head, Link as LinkField, Tag}
 use Rattle.index_words.specs.declared.word.Part.TheVariants.{Stamp as Number}
 use Rattle.index_words.specs.declared.word.Word.TheVariants.{Node, Entry}
 use Rattle.index_words.specs.Words.{word_at}
@@ -16,6 +16,7 @@ use Rattle.core_invariant.specs.Histories.{place_count}
 use Rattle.core_invariant.specs.Locks.{lock_count}
 use Rattle.core_invariant.specs.OwnPlaces.{HasNumber}
 use Rattle.core_invariant.specs.Rule.{IsRight}
+use Rattle.core_laws.specs.Changers.{ChangesLink, ChangesTag, HasTag, IsStoredSince}
 use Rattle.core_laws.specs.Counts.{MeetsLock, FindsNoNumber, FindsOtherHead, FindsOtherChild, FindsOtherTag, FindsMark}
 
 -- this holds of another pass of the table than this view's: of a view that has its number, or to which it was given up
@@ -61,15 +62,19 @@ pub record HasTakenOut (t : Table) (e : Event) (pass : ℕ) (view : View) : Type
   pub word : word_at t.layout e.word ≡ Some (Node Mark node)
   pub waits : 0 < count node view.retired.nodes + count node view.batch.nodes
 
--- what is met is another pass's: a lock that is held, an entry without a number, another head than the remembered one,
--- a mark
+-- What is met is another pass's: a lock that is held, an entry without a number, another head than the remembered one,
+-- a mark. Another plain link, or another tag, than the remembered one was stored since it was that: by another seat, or
+-- by this one.
 pub record MetByOthers (t : Table) (e : Event) (v : View) : Type 0 where
   pub lock : MeetsLock t e → AnotherPass t v (HasLocked t e)
   pub number : FindsNoNumber t e v → AnotherPass t v (HasPending t e)
   pub head : FindsOtherHead t e v → AnotherPass t v (HasMovedHead t e)
+  pub link : (p : FindsOtherChild t e v) → IsStoredSince t e.seat (Node (LinkField p.side) p.node) p.other.link.child (ChangesLink p.node p.side)
+  pub tag : (p : FindsOtherTag t e v) (x : ℕ) → HasTag x p.other.link.source
+      → IsStoredSince t e.seat (Node (Tag p.side) p.node) x (ChangesTag p.node p.side)
   pub mark : FindsMark t e v → AnotherPass t v (HasTakenOut t e)
 
--- each count rises for what another pass did
+-- each count rises for what another pass did, or for a link or a tag that was stored since
 abbrev pub OthersLaw : Type 0
 OthersLaw = (t : Table) (e : Event) (v : View) → IsRight t → allowed t e ≡ true → slice_get t.views e.seat ≡ Some v → MetByOthers t e v
 

@@ -9,6 +9,7 @@ pub mod PlainTrees
 pub mod Searching
 pub mod Waits
 pub mod Counts
+pub mod Changers
 pub mod Alone
 pub mod SlotSums
 pub mod Found

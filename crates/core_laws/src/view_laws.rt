@@ -1,5 +1,6 @@
 // Laws on the tables that meet the rule. These calls do nothing: their clauses are what is proved.
 ghost use Rattle.core_laws.specs.Alone.{OthersLaw, NothingLaw, AloneLaw};
+ghost use Rattle.core_laws.specs.Changers.{ChangesLaw};
 ghost use Rattle.core_laws.specs.Counts.{CountsLaw, OtherHeadLaw, TakenLaw, TreeNotRetiredLaw};
 ghost use Rattle.core_laws.specs.Cuts.{CutNeedLaw, UnreadLaw};
 ghost use Rattle.core_laws.specs.Falls.{FallsLaw};
@@ -106,9 +107,13 @@ pub fn what_loads_find()
 /// Who makes the counts of a view rise: another pass than the view's. A lock that is found held is one that a view of
 /// another pass has locked; an entry that is found without a number is pending in one; another head than the remembered
 /// one is pending in one, or its number is the place of an update of another pass; a node that is found marked waits in
-/// the slots of one. So on a table of one pass nothing of this is met, nor another plain link or tag than the seat
-/// remembers or has set itself; and no count rises.
+/// the slots of one. A plain link is changed by the seat whose update has still to set it, and a tag by the one whose
+/// update has still to raise it, under the lock of the node, or by the seat that fills the node, a free one of its own.
+/// So another link or tag than the remembered one was stored since by such an event, of another seat or of this one. On
+/// a table of one pass nothing of this is met, nor another plain link or tag than the seat remembers or has set itself;
+/// and no count rises.
 pub fn who_raises_counts()
+    ensures changes { ChangesLaw }
     ensures others { OthersLaw }
     ensures nothing { NothingLaw }
     ensures alone { AloneLaw }
