@@ -97,7 +97,7 @@ impl Hints {
             self.row = 0;
             return false;
         }
-        if self.row == BEGIN {
+        if self.row >= BEGIN {
             return self.loaded <= asked;
         }
         self.row += 1;
