@@ -68,9 +68,7 @@ impl Hints {
         }
     }
 
-    /// Notes at which node a search for `asked` met a key, and loads ahead where the search goes on with a listing. It is
-    /// apart from the search, so that searches without hints are as quick as before.
-    #[inline(never)]
+    /// Notes at which node a search for `asked` met a key, and loads ahead where the search goes on with a listing.
     pub(crate) fn meet(&mut self, pass: &mut TablePass<'_>, asked: u64, key: u64, node: u32)
         ensures { pass.new ≡ pass.old }
     {

@@ -129,7 +129,6 @@ impl Way {
     }
 
     /// Keeps a search. If there is no room, all others are forgotten.
-    #[inline(always)]
     pub(crate) fn keep(&mut self, search: Search)
         ensures { (v : View) (t : ℕ) → Every (IsOnWay v t) self.old → IsOnWay v t search → Every (IsOnWay v t) self.new }
     {
@@ -141,8 +140,7 @@ impl Way {
     }
 
     /// Keeps the search that goes on to the right of a node with this key, which a search for `asked` has met. It is not
-    /// kept if no key is higher. The node is noted, where hints are kept.
-    #[inline(always)]
+    /// kept if no key is higher.
     pub(crate) fn keep_right(
         &mut self,
         pass: &mut TablePass<'_>,
@@ -154,13 +152,31 @@ impl Way {
         ensures same { pass.new ≡ pass.old }
         ensures kept { (v : View) (t : ℕ) → Every (IsOnWay v t) self.old → IsOnWay v t (right_of node key best) → Every (IsOnWay v t) self.new }
     {
-        if key >= self.hints.from {
-            self.hints.meet(pass, asked, key, node);
+        if key < self.hints.from {
+            self.keep(Search::right_of(node, key, best));
+        } else {
+            self.note_and_keep(pass, asked, node, key, best);
         }
-        if key == u64::MAX {
-            return;
+    }
+
+    /// The same where hints are kept, or no key is higher. It is apart, so that searches without hints are as quick as
+    /// before.
+    #[inline(never)]
+    fn note_and_keep(
+        &mut self,
+        pass: &mut TablePass<'_>,
+        asked: u64,
+        node: u32,
+        key: u64,
+        best: Option<Pair>,
+    )
+        ensures same { pass.new ≡ pass.old }
+        ensures kept { (v : View) (t : ℕ) → Every (IsOnWay v t) self.old → IsOnWay v t (right_of node key best) → Every (IsOnWay v t) self.new }
+    {
+        self.hints.meet(pass, asked, key, node);
+        if key != u64::MAX {
+            self.keep(Search::right_of(node, key, best));
         }
-        self.keep(Search::right_of(node, key, best));
     }
 
     /// Takes the search that was kept last.
