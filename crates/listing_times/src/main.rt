@@ -3,10 +3,14 @@
 //
 //     way KEYS LISTINGS       each search goes on from the way to the last pair
 //     root KEYS LISTINGS      each search begins at the root
+//     near KEYS LISTINGS      as `way`, with keys near one another, as the ranks of names are; fewer, since some are put
+//                             several times
+//     hinted KEYS LISTINGS    as `near`, with the hints of an earlier listing
+//     stale KEYS LISTINGS     as `near`, one listing, with the hints of a listing before all keys were put anew
 //     beside KEYS LISTINGS    as `way`, by three passes on threads, next to one that puts all keys again so many times
 //
 // A line is printed for each pass: its number, how many pairs it has listed or put, and in how many nanoseconds;
-// `bench/listings` computes the nanoseconds of an entry. Without arguments a small run is made, and no nanoseconds are
+// `bench/listings` computes the nanoseconds of an entry. Without arguments small runs are made, and no nanoseconds are
 // printed.
 #![tactic(auto)]
 
@@ -20,17 +24,23 @@ use std::thread::Threads;
 use std::{env, io};
 use work::Made;
 
-const SMALL: Run = Run {
-    kind: Kind::Beside,
-    keys: 100,
-    turns: 2,
-};
+/// The small runs. Those with near keys list the same pairs, whatever the hints are: the last one, which lists once, half
+/// as many.
+const SMALL: [Kind; 4] = [Kind::Beside, Kind::Near, Kind::Hinted, Kind::Stale];
 
 fn main(rt: HostRuntime) -> io::Result<()> {
     let mut words = env::args(&rt)?;
     let _program = words.next();
     let Some(word) = words.next() else {
-        return print_run(&rt, &rt, &SMALL, false);
+        for kind in SMALL {
+            let run = Run {
+                kind,
+                keys: 100,
+                turns: 2,
+            };
+            print_run(&rt, &rt, &run, false)?;
+        }
+        return Ok(());
     };
     let mut numbers = [0u32; 2];
     for number in numbers.iter_mut() {
@@ -45,7 +55,7 @@ fn main(rt: HostRuntime) -> io::Result<()> {
     let [keys, turns] = numbers;
     match kind_of(word.as_str()) {
         Some(kind) => print_run(&rt, &rt, &Run { kind, keys, turns }, true),
-        None => println!(rt; "way, root or beside is wanted"),
+        None => println!(rt; "way, root, near, hinted, stale or beside is wanted"),
     }
 }
 
@@ -53,6 +63,9 @@ fn kind_of(word: &str) -> Option<Kind> {
     match word {
         "way" => Some(Kind::Way),
         "root" => Some(Kind::Root),
+        "near" => Some(Kind::Near),
+        "hinted" => Some(Kind::Hinted),
+        "stale" => Some(Kind::Stale),
         "beside" => Some(Kind::Beside),
         _ => None,
     }

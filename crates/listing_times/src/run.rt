@@ -17,6 +17,12 @@ pub(crate) enum Kind {
     Way,
     /// One pass lists, each search from the root on.
     Root,
+    /// As `Way`, where the keys are near one another.
+    Near,
+    /// The same with hints that its earlier listings have left.
+    Hinted,
+    /// The same, once, with hints that were left before all keys were put anew.
+    Stale,
     /// Three passes list as for `Way`, and pass 0 puts.
     Beside,
 }
@@ -62,6 +68,14 @@ fn opened(alloc: Global, run: &Run) -> Result<(SharedTable, Vec<PassKey>), NoMem
     }
 }
 
+/// Whether the keys are near one another, as hints need it.
+fn has_near_keys(kind: Kind) -> bool {
+    match kind {
+        Kind::Near | Kind::Hinted | Kind::Stale => true,
+        Kind::Way | Kind::Root | Kind::Beside => false,
+    }
+}
+
 /// Puts all keys, if the key is that of pass 0.
 fn fill<R: Wait>(rt: &R, table: &SharedTable, key: PassKey, run: &Run) -> PassKey
     requires of { IsPassOf table.now key }
@@ -69,22 +83,30 @@ fn fill<R: Wait>(rt: &R, table: &SharedTable, key: PassKey, run: &Run) -> PassKe
 {
     let mut pass = table.attach(key);
     if pass.client() == 0 {
-        put_keys(&mut pass, rt, run.keys);
+        put_keys(&mut pass, rt, run.keys, has_near_keys(run.kind));
     }
     pass.detach()
 }
 
 /// Does the task of a pass.
-fn work<R: Wait + Clock>(rt: &R, table: &SharedTable, key: PassKey, run: &Run) -> Made
+fn work<R: Wait + Clock>(
+    rt: &R,
+    alloc: Global,
+    table: &SharedTable,
+    key: PassKey,
+    run: &Run,
+) -> Made
     requires of { IsPassOf table.now key }
 {
     let mut pass = table.attach(key);
     let task = match run.kind {
         Kind::Beside if pass.client() == 0 => Task::Put,
         Kind::Root => Task::ListFrom,
-        Kind::Way | Kind::Beside => Task::ListOn,
+        Kind::Way | Kind::Near | Kind::Beside => Task::ListOn,
+        Kind::Hinted => Task::ListHinted,
+        Kind::Stale => Task::ListStale,
     };
-    time(&mut pass, rt, task, run.keys, run.turns)
+    time(&mut pass, rt, alloc, task, run.keys, run.turns)
 }
 
 /// Puts all keys, by the pass of the key that is pass 0's.
@@ -107,6 +129,7 @@ fn fill_by<R: Threads + Wait + Sync>(
 /// Does the tasks of all passes at once.
 fn work_all<R: Threads + Wait + Clock + Sync>(
     rt: &R,
+    alloc: Global,
     table: &SharedTable,
     keys: Vec<PassKey>,
     run: &Run,
@@ -115,7 +138,7 @@ fn work_all<R: Threads + Wait + Clock + Sync>(
 {
     let work = |key: PassKey| -> Made
         requires { IsPassOf table.now key }
-    { work(rt, table, key, run) };
+    { work(rt, alloc, table, key, run) };
     map_vec(rt, keys, &work)
 }
 
@@ -127,5 +150,5 @@ pub(crate) fn make_run<R: Threads + Wait + Clock + Sync>(
 ) -> Result<Vec<Made>, NoMemory> {
     let (table, keys) = opened(alloc, run)?;
     let filled = fill_by(rt, &table, keys, run)?;
-    Ok(work_all(rt, &table, filled, run)?)
+    Ok(work_all(rt, alloc, &table, filled, run)?)
 }

@@ -35,11 +35,19 @@ impl SharedIndex {
         ensures index_unchanged { IfErr result (λ e. e.index ≡ self) }
         ensures keys_unchanged { IfErr result (λ e. e.keys.items ≡ keys.items) }
     {
-        let SharedIndex { table } = self;
+        let SharedIndex {
+            table,
+            hints,
+            alloc: source,
+        } = self;
         match table.close(alloc, keys) {
             Ok(history) => Ok(history),
             Err(CloseError { table, keys }) => Err(FinishError {
-                index: SharedIndex { table },
+                index: SharedIndex {
+                    table,
+                    hints,
+                    alloc: source,
+                },
                 keys,
             }),
         }

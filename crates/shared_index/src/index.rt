@@ -12,10 +12,17 @@ use std::alloc::Global;
 use std::marker::Model;
 use table_steps::{PassKey, SharedTable};
 
+/// The trees of fewer keys mostly stay in the processor's cache, so that their listings need no hints.
+const MANY: u32 = 32_768;
+
 /// An ordered map that passes share. Contracts see which table it is kept in, and that table's layout.
 #[derive(Drop)]
 pub struct SharedIndex {
     pub(crate) table: SharedTable,
+    /// How many keys a pass has hints of at most.
+    pub(crate) hints: u32,
+    /// Where the memory of the hints comes from.
+    pub(crate) alloc: Global,
 }
 
 impl Model for SharedIndex {
@@ -43,7 +50,7 @@ pub enum OpenError {
 impl SharedIndex {
     /// Opens an index for passes of these sizes, with an empty history. The keys are all keys of the index, each once,
     /// in the order of the sizes: key `i` has the number `i`, and the slots and calls of size `i`, all of them free.
-    /// All memory that later calls use is taken here, except that of `finish`.
+    /// All memory that later calls use is taken here, except that of `finish` and of the hints of `attach`.
     ///
     /// ```
     /// let size = PassSize { nodes: 8, entries: 32, calls: 8 };
@@ -64,7 +71,14 @@ impl SharedIndex {
             return Err(OpenError::BadSizes);
         };
         match SharedTable::open(alloc, &layout, sizes) {
-            Ok((table, keys)) => Ok((SharedIndex { table }, keys)),
+            Ok((table, keys)) => Ok((
+                SharedIndex {
+                    table,
+                    hints: layout.nodes,
+                    alloc,
+                },
+                keys,
+            )),
             Err(NoMemory) => Err(OpenError::NoMemory),
         }
     }
@@ -76,7 +90,9 @@ impl SharedIndex {
         &self.table
     }
 
-    /// Takes up the work of a pass. No snapshot is open, and everything else is as the key has it.
+    /// Takes up the work of a pass. No snapshot is open, and everything else is as the key has it. If the index has many
+    /// node slots, the pass takes memory for hints, 4 bytes a slot, by which long listings load ahead. Without that memory
+    /// its answers are the same.
     ///
     /// ```
     /// let mut pass = index.attach(key);
@@ -92,7 +108,7 @@ impl SharedIndex {
     {
         let pass = self.table.attach(key);
         own_facts(&pass);
-        let way = Way::new();
+        let way = Way::hinting(self.alloc, self.hints, MANY);
         IndexPass {
             pass,
             way,

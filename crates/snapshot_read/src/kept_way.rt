@@ -4,9 +4,12 @@ ghost use Rattle.index_words.specs.declared.view.View.{View};
 ghost use Rattle.key_map.specs.Lists.{Every};
 ghost use Rattle.snapshot_read.specs.Ways.{Covers, IsOnWay, IsKeptWay, IsTaken, root, right_of};
 
+use crate::hints::Hints;
 use core_trees::Link;
 use index_words::{Pair, Side};
+use std::alloc::Global;
 use std::marker::Model;
+use table_steps::TablePass;
 
 /// How many searches are kept at most.
 const STEPS: usize = 32;
@@ -72,11 +75,14 @@ impl Search {
 }
 
 /// The searches that go on where one search of the open snapshot has not looked: to the right of the nodes at which it
-/// went to the left. It is for one snapshot, and takes no memory.
+/// went to the left. They are for one snapshot, and take no memory. Hints of the nodes of keys stay from one snapshot to
+/// the next; contracts do not see them.
 #[derive(Drop)]
 pub struct Way {
     steps: [Search; 32],
     count: usize,
+    /// No part of the value.
+    pub(crate) hints: Hints,
 }
 
 impl Model for Way {
@@ -98,6 +104,20 @@ impl Way {
         Way {
             steps: [Search::root(); STEPS],
             count: 0,
+            hints: Hints::none(),
+        }
+    }
+
+    /// A way on which nothing is kept, with room for hints of the nodes of the keys below a bound, 4 bytes each: long
+    /// listings load ahead by them. They are kept once a search has met a key from `many` on, since a tree of few keys
+    /// mostly stays in the cache. Without memory for the room there are no hints; later calls take no memory.
+    pub fn hinting(alloc: Global, bound: u32, many: u32) -> Way
+        ensures { (v : View) → IsKeptWay v result }
+    {
+        Way {
+            steps: [Search::root(); STEPS],
+            count: 0,
+            hints: Hints::below(alloc, bound, many),
         }
     }
 
@@ -119,14 +139,44 @@ impl Way {
         self.count += 1;
     }
 
-    /// Keeps the search that goes on to the right of a node with this key. It is not kept if no key is higher.
-    pub(crate) fn keep_right(&mut self, node: u32, key: u64, best: Option<Pair>)
-        ensures { (v : View) (t : ℕ) → Every (IsOnWay v t) self.old → IsOnWay v t (right_of node key best) → Every (IsOnWay v t) self.new }
+    /// Keeps the search that goes on to the right of a node with this key, which a search for `asked` has met. It is not
+    /// kept if no key is higher.
+    pub(crate) fn keep_right(
+        &mut self,
+        pass: &mut TablePass<'_>,
+        asked: u64,
+        node: u32,
+        key: u64,
+        best: Option<Pair>,
+    )
+        ensures same { pass.new ≡ pass.old }
+        ensures kept { (v : View) (t : ℕ) → Every (IsOnWay v t) self.old → IsOnWay v t (right_of node key best) → Every (IsOnWay v t) self.new }
     {
-        if key == u64::MAX {
-            return;
+        if key < self.hints.from {
+            self.keep(Search::right_of(node, key, best));
+        } else {
+            self.note_and_keep(pass, asked, node, key, best);
         }
-        self.keep(Search::right_of(node, key, best));
+    }
+
+    /// The same where hints are kept, or no key is higher. It is apart, so that searches without hints are as quick as
+    /// before.
+    #[inline(never)]
+    fn note_and_keep(
+        &mut self,
+        pass: &mut TablePass<'_>,
+        asked: u64,
+        node: u32,
+        key: u64,
+        best: Option<Pair>,
+    )
+        ensures same { pass.new ≡ pass.old }
+        ensures kept { (v : View) (t : ℕ) → Every (IsOnWay v t) self.old → IsOnWay v t (right_of node key best) → Every (IsOnWay v t) self.new }
+    {
+        self.hints.meet(pass, asked, key, node);
+        if key != u64::MAX {
+            self.keep(Search::right_of(node, key, best));
+        }
     }
 
     /// Takes the search that was kept last.

@@ -3,6 +3,7 @@
 //! that holds no lock, or `next_on` and `try_next_on`, which go on from what a `Way` has kept of the snapshot.
 #![tactic(auto)]
 
+mod hints;
 mod kept_way;
 mod looks;
 mod search;

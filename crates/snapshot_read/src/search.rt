@@ -77,7 +77,7 @@ fn go_on(
 {
     let below = go_down(pass, at, key, child, search);
     if let (Side::Left, Some(here)) = (below.at.side, below.best) {
-        way.keep_right(child, here.key, search.best);
+        way.keep_right(pass, key, child, here.key, search.best);
     }
     below
 }

@@ -6,6 +6,7 @@
 // function that calls itself can pick no ghost member (`make_key`).
 #![tactic(auto)]
 
+mod ahead;
 mod close;
 mod cuts;
 mod free;

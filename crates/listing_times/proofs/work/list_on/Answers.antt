@@ -2,7 +2,7 @@ use Rattle.listing_times.proofs.work.list_on.Goals as goal
 use Rattle.listing_times.proofs.work.list_on.Goals.{else-pairs-test, then-pairs-test+in_default}
 
 pub pairs-init : goal.pairs-init
-pairs-init g c = ((c.begin.result, c.begin.ensures.reads), c.new-way.ensures c.begin.new.pass.view)
+pairs-init g c = ((c.begin.result, c.begin.ensures.reads), c.forget.ensures c.begin.new.pass.view)
 
 pub end-requires : goal.end-requires
 end-requires g c = record {
