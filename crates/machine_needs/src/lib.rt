@@ -9,6 +9,7 @@ mod lock_needs;
 pub mod needs;
 mod plain_needs;
 mod seat_needs;
+mod seen;
 pub mod step;
 mod update_needs;
 mod wait_needs;

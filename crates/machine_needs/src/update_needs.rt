@@ -6,6 +6,7 @@ ghost use Rattle.core_events.specs.declared.event.Kind.TheVariants.{Prepare, Rai
 ghost use Rattle.core_events.specs.UpdateNeeds.{side_of as side_named, is_written as written, is_next_of as next_of, is_ready as ready, held_at as held_named, may_prepare_entry as entry_needs, may_prepare as prepare_needs, may_raise_number as number_needs, may_raise as raise_needs, may_finalise as finalise_needs};
 ghost use Rattle.machine_needs.specs.StepParts.{parts_of, IsStep};
 
+use crate::seen::Seen;
 use crate::step::{Step, Store};
 use core_events::reads::{held, is_in};
 use index_words::{Field, HeldNode, HeldSide, Layout, LoadedHead, Part, Side, Update, View, Word};
@@ -114,21 +115,22 @@ fn may_raise_number(view: &View, value: u64) -> bool
 
 /// The step of a raise of this update.
 pub(crate) fn raise(
-    layout: &Layout,
-    words: &[u64],
-    views: &[View],
+    seen: &Seen<'_>,
     view: &View,
     word: Word,
     value: u64,
     update: Update,
 ) -> Option<Step>
-    ensures met { is_some result ≡ raise_needs layout.now (memory layout.now words.now) views.now view.now word value (Some update) }
+    ensures met { is_some result ≡ raise_needs seen.now.layout.now (memory seen.now.layout.now seen.now.words.now)
+        seen.now.views.now view.now word value (Some update) }
     ensures step { IfSome result (λ s. parts_of s ≡ record { kind = Raise; word = word; value = value; update = Some update }) }
 {
     let Word::Stamp = word else {
         return None;
     };
-    if may_raise_number(view, value) && is_tree_step(layout, words, views, view, update) {
+    if may_raise_number(view, value)
+        && is_tree_step(seen.layout, seen.words, seen.views, view, update)
+    {
         return Some(Step::Raise { update });
     }
     None
