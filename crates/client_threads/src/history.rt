@@ -13,6 +13,7 @@ ghost use Rattle.request_lines.specs.InputParts.{most_clients};
 
 use crate::node_slots::NodeSlots;
 use crate::opening::open_index;
+use crate::run_input::RunInput;
 use crate::runner::Runner;
 use client_run::Gate;
 use key_map::Update;
@@ -64,7 +65,13 @@ pub fn history_over<G: Gate + Sync, R: Runner<G>, Rt: Threads + Wait + Sync>(
     ensures ran { IfOk result (λ updates. RanSession dir.now (named slots) session.now.clients updates.items (R.replied runner.new)) }
     ensures runs { OnOk result (R.runs runner.new ≡ one_more (R.runs runner.old)) }
 {
-    let keys = run_keys(rt, alloc, slots, &index, keys, session, dir, gate, runner)?;
+    let input = RunInput {
+        index: &index,
+        session,
+        dir,
+        gate,
+    };
+    let keys = run_keys(rt, alloc, slots, keys, &input, runner)?;
     match index.finish(alloc, keys) {
         Ok(updates) => Ok(updates),
         Err(_) => Err(NoMemory),
@@ -76,28 +83,23 @@ fn run_keys<G: Gate + Sync, R: Runner<G>, Rt: Threads + Wait + Sync>(
     rt: &Rt,
     alloc: Global,
     slots: NodeSlots,
-    index: &SharedIndex,
     keys: Vec<PassKey>,
-    session: &Session,
-    dir: &Directory,
-    gate: &G,
+    input: &RunInput<'_, G>,
     runner: &mut R,
 ) -> Result<Vec<PassKey>, NoMemory>
     requires slots { IsNamable (named slots) }
-    requires can { CanRunEach dir.now index.now (parts_of session.now.clients) keys.items }
+    requires can { CanRunEach input.now.dir.now input.now.index.now (parts_of input.now.session.now.clients) keys.items }
     requires some { 0 < length keys.items }
     requires few { length keys.items ≤ most_clients }
     requires fits { IfSome (named slots) (λ own. sum_by owned keys.items ≤ own * length keys.items) }
-    ensures ran { IfOk result (λ back. RanBehindEach (named slots) dir.now index.now (parts_of session.now.clients) keys.items back.items (R.replied runner.new)) }
+    ensures ran { IfOk result (λ back. RanBehindEach (named slots) input.now.dir.now input.now.index.now (parts_of input.now.session.now.clients) keys.items back.items (R.replied runner.new)) }
     ensures runs { OnOk result (R.runs runner.new ≡ one_more (R.runs runner.old)) }
 {
     match slots {
         NodeSlots::Pooled(own) => {
             let room = own * keys.len() as u32;
-            runner.run_pool(rt, alloc, index, keys, session, dir, gate, own, room)
+            runner.run_pool(rt, alloc, keys, input, own, room)
         }
-        NodeSlots::AsAsked | NodeSlots::Named(_) => {
-            runner.run_all(rt, alloc, index, keys, session, dir, gate)
-        }
+        NodeSlots::AsAsked | NodeSlots::Named(_) => runner.run_all(rt, alloc, keys, input),
     }
 }

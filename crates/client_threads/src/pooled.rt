@@ -14,12 +14,12 @@ ghost use Rattle.client_threads.specs.Threads.{CameOf};
 
 use crate::parts::{RanPart, take_apart};
 use crate::room::make_client_room;
+use crate::run_input::RunInput;
 use bucket_terms::{KeyPass, Placed, PoolPass};
 use client_run::{Gate, run_pooled};
 use fork_join::map_vec;
 use key_map::Items;
-use key_names::{Directory, NoMemory};
-use request_lines::ClientPart;
+use key_names::NoMemory;
 use shared_index::{IndexPass, Parcel, PassKey, SharedIndex};
 use slot_depot::{Depot, DepotSeat};
 use std::alloc::Global;
@@ -32,26 +32,23 @@ use std::thread::Threads;
 pub(crate) fn pool_each<G: Gate + Sync, Rt: Threads + Wait + Sync>(
     rt: &Rt,
     alloc: Global,
-    index: &SharedIndex,
     keys: Vec<PassKey>,
-    parts: &[ClientPart],
-    dir: &Directory,
-    gate: &G,
+    input: &RunInput<'_, G>,
     own: u32,
     room: u32,
 ) -> Result<(Vec<PassKey>, Vec<Items<Placed>>), NoMemory>
-    requires can { CanRunEach dir.now index.now (parts_of parts.now) keys.items }
+    requires can { CanRunEach input.now.dir.now input.now.index.now (parts_of input.now.session.now.clients) keys.items }
     requires some { 0 < length keys.items }
     requires room { 0 < room }
     requires fits { sum_by owned keys.items ≤ room }
-    ensures { IfOk result (λ back. PooledOverEach own dir.now index.now (parts_of parts.now) keys.items back.0.items back.1.items) }
+    ensures { IfOk result (λ back. PooledOverEach own input.now.dir.now input.now.index.now (parts_of input.now.session.now.clients) keys.items back.0.items back.1.items) }
 {
-    let (depot, seats) = open_depot(alloc, index, keys.len(), room)?;
+    let (depot, seats) = open_depot(alloc, input.index, keys.len(), room)?;
     let jobs = seated(alloc, keys, seats)?;
-    let results = pool_jobs(rt, alloc, index, jobs, parts, dir, gate, &depot, own)?;
+    let results = pool_jobs(rt, alloc, jobs, input, &depot, own)?;
     let (keys, seats, replies) = take_apart(alloc, results)?;
     match depot.close(rt, alloc, seats) {
-        Ok(left) => Ok((adopt_left(index, keys, left), replies)),
+        Ok(left) => Ok((adopt_left(input.index, keys, left), replies)),
         Err(_) => Err(NoMemory),
     }
 }
@@ -120,22 +117,19 @@ fn seated(
 fn pool_jobs<G: Gate + Sync, Rt: Threads + Wait + Sync>(
     rt: &Rt,
     alloc: Global,
-    index: &SharedIndex,
     jobs: Vec<SeatedKey>,
-    parts: &[ClientPart],
-    dir: &Directory,
-    gate: &G,
+    input: &RunInput<'_, G>,
     depot: &Depot<Parcel>,
     own: u32,
 ) -> Result<Vec<Result<RanPart<DepotSeat<Parcel>>, NoMemory>>, NoMemory>
-    requires can { CanPoolEach dir.now index.now depot.now (parts_of parts.now) jobs.items }
+    requires can { CanPoolEach input.now.dir.now input.now.index.now depot.now (parts_of input.now.session.now.clients) jobs.items }
     requires fits { sum_by owned_by_job jobs.items ≤ depot.now.room }
-    ensures { IfOk result (λ results. CameOf (PooledOne own dir.now index.now (parts_of parts.now)) jobs.items results.items) }
+    ensures { IfOk result (λ results. CameOf (PooledOne own input.now.dir.now input.now.index.now (parts_of input.now.session.now.clients)) jobs.items results.items) }
 {
     let run = |job: SeatedKey| -> Result<RanPart<DepotSeat<Parcel>>, NoMemory>
-        requires { CanPoolOne dir.now index.now depot.now (parts_of parts.now) job }
-        ensures { IfOk result (PooledOne own dir.entry.now index.entry.now (parts_of parts.entry.now) job.key.number job) }
-    { pool_job(rt, alloc, index, job, parts, dir, gate, depot, own) };
+        requires { CanPoolOne input.now.dir.now input.now.index.now depot.now (parts_of input.now.session.now.clients) job }
+        ensures { IfOk result (PooledOne own input.entry.now.dir.now input.entry.now.index.now (parts_of input.entry.now.session.now.clients) job.key.number job) }
+    { pool_job(rt, alloc, job, input, depot, own) };
     Ok(map_vec(rt, jobs, &run)?)
 }
 
@@ -143,22 +137,22 @@ fn pool_jobs<G: Gate + Sync, Rt: Threads + Wait + Sync>(
 fn pool_job<G: Gate, Rt: Wait>(
     rt: &Rt,
     alloc: Global,
-    index: &SharedIndex,
     job: SeatedKey,
-    parts: &[ClientPart],
-    dir: &Directory,
-    gate: &G,
+    input: &RunInput<'_, G>,
     depot: &Depot<Parcel>,
     own: u32,
 ) -> Result<RanPart<DepotSeat<Parcel>>, NoMemory>
-    requires { CanPoolOne dir.now index.now depot.now (parts_of parts.now) job }
-    ensures { IfOk result (PooledOne own dir.now index.now (parts_of parts.now) job.key.number job) }
+    requires { CanPoolOne input.now.dir.now input.now.index.now depot.now (parts_of input.now.session.now.clients) job }
+    ensures { IfOk result (PooledOne own input.now.dir.now input.now.index.now (parts_of input.now.session.now.clients) job.key.number job) }
 {
     let SeatedKey { key, mut seat } = job;
-    let mut pass = index.attach(key);
+    let mut pass = input.index.attach(key);
+    let parts = input.session.clients.as_slice();
     let part = &parts[pass.client() as usize];
     make_client_room(alloc);
-    let replies = run_pooled(rt, alloc, &mut pass, part, dir, gate, depot, &mut seat, own)?;
+    let replies = run_pooled(
+        rt, alloc, &mut pass, part, input.dir, input.gate, depot, &mut seat, own,
+    )?;
     Ok(RanPart {
         key: pass.detach(),
         seat,

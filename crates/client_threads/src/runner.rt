@@ -7,11 +7,11 @@ ghost use Rattle.outside_io.specs.Streams.{one_more};
 ghost use Rattle.client_threads.specs.Pools.{PooledOverEach, owned};
 ghost use Rattle.client_threads.specs.Runs.{CanRunEach, RanOverEach, parts_of};
 
+use crate::run_input::RunInput;
 use bucket_terms::Placed;
 use client_run::Gate;
-use key_names::{Directory, NoMemory};
-use request_lines::Session;
-use shared_index::{PassKey, SharedIndex};
+use key_names::NoMemory;
+use shared_index::PassKey;
 use std::alloc::Global;
 use std::sync::Wait;
 use std::thread::Threads;
@@ -21,7 +21,8 @@ use std::thread::Threads;
 /// of a type parameter of its own to threads.
 ///
 /// ```
-/// let keys = runner.run_all(rt, alloc, &index, keys, &session, &dir, &OpenGate)?;
+/// let input = RunInput { index: &index, session: &session, dir: &dir, gate: &OpenGate };
+/// let keys = runner.run_all(rt, alloc, keys, &input)?;
 /// // the first client's, one for each of its request lines
 /// let replies = runner.replies(0);
 /// // the history of all updates, once all keys of the index are back
@@ -43,15 +44,12 @@ pub trait Runner<G: Gate + Sync> {
         &mut self,
         rt: &Rt,
         alloc: Global,
-        index: &SharedIndex,
         keys: Vec<PassKey>,
-        session: &Session,
-        dir: &Directory,
-        gate: &G,
+        input: &RunInput<'_, G>,
     ) -> Result<Vec<PassKey>, NoMemory>
         requires sync { IsSync Rt.row }
-        requires can { CanRunEach dir.now index.now (parts_of session.now.clients) keys.items }
-        ensures ran { IfOk result (λ back. RanOverEach dir.now index.now (parts_of session.now.clients) keys.items back.items (replied self.new)) }
+        requires can { CanRunEach input.now.dir.now input.now.index.now (parts_of input.now.session.now.clients) keys.items }
+        ensures ran { IfOk result (λ back. RanOverEach input.now.dir.now input.now.index.now (parts_of input.now.session.now.clients) keys.items back.items (replied self.new)) }
         ensures runs { OnOk result (runs self.new ≡ one_more (runs self.old)) }
         ensures never_fall { runs self.old ≤ runs self.new };
 
@@ -65,20 +63,17 @@ pub trait Runner<G: Gate + Sync> {
         &mut self,
         rt: &Rt,
         alloc: Global,
-        index: &SharedIndex,
         keys: Vec<PassKey>,
-        session: &Session,
-        dir: &Directory,
-        gate: &G,
+        input: &RunInput<'_, G>,
         own: u32,
         room: u32,
     ) -> Result<Vec<PassKey>, NoMemory>
         requires sync { IsSync Rt.row }
-        requires can { CanRunEach dir.now index.now (parts_of session.now.clients) keys.items }
+        requires can { CanRunEach input.now.dir.now input.now.index.now (parts_of input.now.session.now.clients) keys.items }
         requires some { 0 < length keys.items }
         requires room { 0 < room }
         requires fits { sum_by owned keys.items ≤ room }
-        ensures ran { IfOk result (λ back. PooledOverEach own dir.now index.now (parts_of session.now.clients) keys.items back.items (replied self.new)) }
+        ensures ran { IfOk result (λ back. PooledOverEach own input.now.dir.now input.now.index.now (parts_of input.now.session.now.clients) keys.items back.items (replied self.new)) }
         ensures runs { OnOk result (runs self.new ≡ one_more (runs self.old)) }
         ensures never_fall { runs self.old ≤ runs self.new };
 

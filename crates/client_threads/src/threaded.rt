@@ -11,14 +11,14 @@ ghost use Rattle.bucket_terms.specs.LegalRun.{lines_of};
 use crate::parts::{RanPart, take_apart};
 use crate::pooled::pool_each;
 use crate::room::make_client_room;
+use crate::run_input::RunInput;
 use crate::runner::Runner;
 use bucket_terms::{KeyPass, Placed};
 use client_run::{Gate, OpenGate, run_client};
 use fork_join::map_vec;
 use key_map::Items;
-use key_names::{Directory, NoMemory};
-use request_lines::{ClientPart, Session};
-use shared_index::{PassKey, SharedIndex};
+use key_names::NoMemory;
+use shared_index::PassKey;
 use std::alloc::Global;
 use std::marker::Model;
 use std::sync::Wait;
@@ -67,27 +67,16 @@ impl Threaded {
         &mut self,
         rt: &Rt,
         alloc: Global,
-        index: &SharedIndex,
         keys: Vec<PassKey>,
-        session: &Session,
-        dir: &Directory,
-        gate: &G,
+        input: &RunInput<'_, G>,
     ) -> Result<Vec<PassKey>, NoMemory>
-        requires { CanRunEach dir.now index.now (parts_of session.now.clients) keys.items }
-        ensures ran { IfOk result (λ back. RanOverEach dir.now index.now (parts_of session.now.clients) keys.items back.items self.new.replied) }
+        requires { CanRunEach input.now.dir.now input.now.index.now (parts_of input.now.session.now.clients) keys.items }
+        ensures ran { IfOk result (λ back. RanOverEach input.now.dir.now input.now.index.now (parts_of input.now.session.now.clients) keys.items back.items self.new.replied) }
         ensures runs { self.new.runs ≡ one_more self.old.runs }
         ensures never_fall { self.old.runs ≤ self.new.runs }
     {
         self.count_run();
-        let results = run_each(
-            rt,
-            alloc,
-            index,
-            keys,
-            session.clients.as_slice(),
-            dir,
-            gate,
-        )?;
+        let results = run_each(rt, alloc, keys, input)?;
         let (keys, _, replies) = take_apart(alloc, results)?;
         self.keep(replies);
         Ok(keys)
@@ -98,25 +87,21 @@ impl Threaded {
         &mut self,
         rt: &Rt,
         alloc: Global,
-        index: &SharedIndex,
         keys: Vec<PassKey>,
-        session: &Session,
-        dir: &Directory,
-        gate: &G,
+        input: &RunInput<'_, G>,
         own: u32,
         room: u32,
     ) -> Result<Vec<PassKey>, NoMemory>
-        requires can { CanRunEach dir.now index.now (parts_of session.now.clients) keys.items }
+        requires can { CanRunEach input.now.dir.now input.now.index.now (parts_of input.now.session.now.clients) keys.items }
         requires some { 0 < length keys.items }
         requires room { 0 < room }
         requires fits { sum_by owned keys.items ≤ room }
-        ensures ran { IfOk result (λ back. PooledOverEach own dir.now index.now (parts_of session.now.clients) keys.items back.items self.new.replied) }
+        ensures ran { IfOk result (λ back. PooledOverEach own input.now.dir.now input.now.index.now (parts_of input.now.session.now.clients) keys.items back.items self.new.replied) }
         ensures runs { self.new.runs ≡ one_more self.old.runs }
         ensures never_fall { self.old.runs ≤ self.new.runs }
     {
         self.count_run();
-        let parts = session.clients.as_slice();
-        let (keys, replies) = pool_each(rt, alloc, index, keys, parts, dir, gate, own, room)?;
+        let (keys, replies) = pool_each(rt, alloc, keys, input, own, room)?;
         self.keep(replies);
         Ok(keys)
     }
@@ -158,28 +143,22 @@ impl Runner<OpenGate> for Threaded {
         &mut self,
         rt: &Rt,
         alloc: Global,
-        index: &SharedIndex,
         keys: Vec<PassKey>,
-        session: &Session,
-        dir: &Directory,
-        gate: &OpenGate,
+        input: &RunInput<'_, OpenGate>,
     ) -> Result<Vec<PassKey>, NoMemory> {
-        self.run_on_threads(rt, alloc, index, keys, session, dir, gate)
+        self.run_on_threads(rt, alloc, keys, input)
     }
 
     fn run_pool<Rt: Threads + Wait + Sync>(
         &mut self,
         rt: &Rt,
         alloc: Global,
-        index: &SharedIndex,
         keys: Vec<PassKey>,
-        session: &Session,
-        dir: &Directory,
-        gate: &OpenGate,
+        input: &RunInput<'_, OpenGate>,
         own: u32,
         room: u32,
     ) -> Result<Vec<PassKey>, NoMemory> {
-        self.pool_on_threads(rt, alloc, index, keys, session, dir, gate, own, room)
+        self.pool_on_threads(rt, alloc, keys, input, own, room)
     }
 
     fn replies(&self, client: u32) -> &[Placed] {
@@ -191,19 +170,16 @@ impl Runner<OpenGate> for Threaded {
 fn run_each<G: Gate + Sync, Rt: Threads + Wait + Sync>(
     rt: &Rt,
     alloc: Global,
-    index: &SharedIndex,
     keys: Vec<PassKey>,
-    parts: &[ClientPart],
-    dir: &Directory,
-    gate: &G,
+    input: &RunInput<'_, G>,
 ) -> Result<Vec<Result<RanPart<()>, NoMemory>>, NoMemory>
-    requires { CanRunEach dir.now index.now (parts_of parts.now) keys.items }
-    ensures { IfOk result (λ results. CameOf (RanOne dir.now index.now (parts_of parts.now)) keys.items results.items) }
+    requires { CanRunEach input.now.dir.now input.now.index.now (parts_of input.now.session.now.clients) keys.items }
+    ensures { IfOk result (λ results. CameOf (RanOne input.now.dir.now input.now.index.now (parts_of input.now.session.now.clients)) keys.items results.items) }
 {
     let run = |key: PassKey| -> Result<RanPart<()>, NoMemory>
-        requires { CanRunOne dir.now index.now (parts_of parts.now) key }
-        ensures { IfOk result (λ r. RanOver dir.entry.now index.entry.now key.number (lines_of (parts_of parts.entry.now) key.number) key r.key r.replies) }
-    { run_key(rt, alloc, index, key, parts, dir, gate) };
+        requires { CanRunOne input.now.dir.now input.now.index.now (parts_of input.now.session.now.clients) key }
+        ensures { IfOk result (λ r. RanOver input.entry.now.dir.now input.entry.now.index.now key.number (lines_of (parts_of input.entry.now.session.now.clients) key.number) key r.key r.replies) }
+    { run_key(rt, alloc, key, input) };
     Ok(map_vec(rt, keys, &run)?)
 }
 
@@ -211,19 +187,17 @@ fn run_each<G: Gate + Sync, Rt: Threads + Wait + Sync>(
 fn run_key<G: Gate, Rt: Wait>(
     rt: &Rt,
     alloc: Global,
-    index: &SharedIndex,
     key: PassKey,
-    parts: &[ClientPart],
-    dir: &Directory,
-    gate: &G,
+    input: &RunInput<'_, G>,
 ) -> Result<RanPart<()>, NoMemory>
-    requires { CanRunOne dir.now index.now (parts_of parts.now) key }
-    ensures { IfOk result (λ r. RanOver dir.now index.now key.number (lines_of (parts_of parts.now) key.number) key r.key r.replies) }
+    requires { CanRunOne input.now.dir.now input.now.index.now (parts_of input.now.session.now.clients) key }
+    ensures { IfOk result (λ r. RanOver input.now.dir.now input.now.index.now key.number (lines_of (parts_of input.now.session.now.clients) key.number) key r.key r.replies) }
 {
-    let mut pass = index.attach(key);
+    let mut pass = input.index.attach(key);
+    let parts = input.session.clients.as_slice();
     let part = &parts[pass.client() as usize];
     make_client_room(alloc);
-    let replies = run_client(rt, alloc, &mut pass, part, dir, gate)?;
+    let replies = run_client(rt, alloc, &mut pass, part, input.dir, input.gate)?;
     Ok(RanPart {
         key: pass.detach(),
         seat: (),

@@ -15,11 +15,10 @@ ghost use Rattle.replay_check.specs.Looking.{IsLookedAt, IsDue};
 
 use crate::numbers::place_in;
 use crate::replay::Replay;
-use crate::turns::{Client, reply_at};
+use crate::turns::{Turn, reply_at};
 use answer_text::push_reply_line;
 use bucket_terms::{Placed, Record};
 use key_names::{Directory, NoMemory};
-use request_lines::Asked;
 use std::alloc::Global;
 
 /// The reply of the line of a request. None if the line is wrong.
@@ -28,31 +27,27 @@ pub(crate) fn line_reply(
     dir: &Directory,
     records: &[Record],
     replay: &Replay,
-    number: u32,
-    client: &Client,
-    own: Option<u64>,
-    asked: &Asked,
-    hint: usize,
+    turn: &Turn<'_>,
     text: &[u8],
 ) -> Result<Option<Placed>, NoMemory>
-    requires known { IfSome (requested_name asked.now.request) (Contains dir.now) }
-    requires last_in_range { ForSome client.now.last (HasPageInRange dir.now) }
+    requires known { IfSome (requested_name turn.now.asked.now.request) (Contains dir.now) }
+    requires last_in_range { ForSome turn.now.client.now.last (HasPageInRange dir.now) }
     requires recorded { All (λ (p : AnyPair). p.val < length records.now) replay.now.map }
     ensures looked { IfOk result (λ found. (c : Checked) (updates : List AnyUpdate) (earlier : List Answered) → c.dir ≡ dir.now → c.records ≡ records.now
-        → client.now.due ≡ replay.now.at → IsDue c updates number earlier (request_line asked.now) text.now client.now → length updates < 2 ^ 64
-        → KnowsTurn (setting c updates number) earlier (request_line asked.now) replay.now own client.now
-        → IsLookedAt c updates number earlier (request_line asked.now) text.now found) }
+        → turn.now.client.now.due ≡ replay.now.at → IsDue c updates turn.now.number earlier (request_line turn.now.asked.now) text.now turn.now.client.now → length updates < 2 ^ 64
+        → KnowsTurn (setting c updates turn.now.number) earlier (request_line turn.now.asked.now) replay.now turn.now.own turn.now.client.now
+        → IsLookedAt c updates turn.now.number earlier (request_line turn.now.asked.now) text.now found) }
     ensures in_range { IfOk result (λ found. ForSome found (λ placed. HasPageInRange dir.now placed.reply)) }
 {
     let at = place_in(text);
     if is_elsewhere(at, replay.at as u64) {
         return Ok(None);
     }
-    match reply_at(alloc, dir, replay, client, own, asked, hint, at)? {
+    match reply_at(alloc, dir, replay, turn, at)? {
         Some(reply) => {
             let placed = Placed {
-                client: number,
-                line: asked.line,
+                client: turn.number,
+                line: turn.asked.line,
                 at,
                 reply,
             };

@@ -12,7 +12,7 @@ use crate::basis::Basis;
 use crate::beginning::{due_at, starts};
 use crate::line_reply::line_reply;
 use crate::replay::Replay;
-use crate::turns::Client;
+use crate::turns::{Client, Turn};
 use bucket_terms::{Placed, Request};
 use key_names::NoMemory;
 use std::alloc::Global;
@@ -122,20 +122,16 @@ fn next_reply(
     let asked = &part.requests.as_slice()[client.next];
     let hint = part.requests.rank(client.next);
     let own = basis.own[number].get(client.next);
-    let text = basis.lines[client.first + client.next];
-    let records = basis.session.records.as_slice();
-    line_reply(
-        alloc,
-        basis.dir,
-        records,
-        replay,
-        number as u32,
+    let turn = Turn {
+        number: number as u32,
         client,
         own,
         asked,
         hint,
-        text,
-    )
+    };
+    let text = basis.lines[client.first + client.next];
+    let records = basis.session.records.as_slice();
+    line_reply(alloc, basis.dir, records, replay, &turn, text)
 }
 
 // The client after its next line, which is right.

@@ -37,47 +37,50 @@ pub(crate) struct Client {
     pub(crate) last: Option<Reply>,
 }
 
+/// A request whose reply line is looked at: the number of its client and what is known of it, the place of the update of
+/// the request, and where the directory may have its name.
+#[derive(Clone, Copy)]
+pub(crate) struct Turn<'a> {
+    pub(crate) number: u32,
+    pub(crate) client: &'a Client,
+    pub(crate) own: Option<u64>,
+    pub(crate) asked: &'a Asked,
+    pub(crate) hint: usize,
+}
+
 /// The reply that the request can have at the place that its line shows, or without one. None if there is no such
 /// reply.
 pub(crate) fn reply_at(
     alloc: Global,
     dir: &Directory,
     replay: &Replay,
-    client: &Client,
-    own: Option<u64>,
-    asked: &Asked,
-    hint: usize,
+    turn: &Turn<'_>,
     at: Option<u64>,
 ) -> Result<Option<Reply>, NoMemory>
-    requires known { IfSome (requested_name asked.now.request) (Contains dir.now) }
-    requires last_in_range { ForSome client.now.last (HasPageInRange dir.now) }
+    requires known { IfSome (requested_name turn.now.asked.now.request) (Contains dir.now) }
+    requires last_in_range { ForSome turn.now.client.now.last (HasPageInRange dir.now) }
     requires here { IfSome at (λ place. replay.now.at ≡ place) }
-    ensures found { IfOk result (λ found. (s : Setting) (earlier : List Answered) → s.dir ≡ dir.now → KnowsTurn s earlier (request_line asked.now) replay.now own client.now
-        → IsFound s earlier (request_line asked.now) at found) }
+    ensures found { IfOk result (λ found. (s : Setting) (earlier : List Answered) → s.dir ≡ dir.now → KnowsTurn s earlier (request_line turn.now.asked.now) replay.now turn.now.own turn.now.client.now
+        → IsFound s earlier (request_line turn.now.asked.now) at found) }
     ensures in_range { IfOk result (λ found. ForSome found (HasPageInRange dir.now)) }
     ensures recorded { (records : List AnyRecord) → All (λ (p : AnyPair). p.val < length records) replay.now.map → IfOk result (λ found. IfSome found (IsReplyOf dir.now records)) }
 {
     match at {
-        Some(at) => placed(alloc, dir, replay, client, own, asked, hint, at),
-        None => unplaced(alloc, dir, client, own, asked),
+        Some(at) => placed(alloc, dir, replay, turn, at),
+        None => unplaced(alloc, dir, turn),
     }
 }
 
 // A request is refused only if it made no update.
-fn unplaced(
-    alloc: Global,
-    dir: &Directory,
-    client: &Client,
-    own: Option<u64>,
-    asked: &Asked,
-) -> Result<Option<Reply>, NoMemory>
-    requires last_in_range { ForSome client.now.last (HasPageInRange dir.now) }
-    ensures found { IfOk result (λ found. (s : Setting) (earlier : List Answered) (replay : AnyReplay) → s.dir ≡ dir.now → KnowsTurn s earlier (request_line asked.now) replay own client.now
-        → IsFound s earlier (request_line asked.now) None found) }
+fn unplaced(alloc: Global, dir: &Directory, turn: &Turn<'_>) -> Result<Option<Reply>, NoMemory>
+    requires last_in_range { ForSome turn.now.client.now.last (HasPageInRange dir.now) }
+    ensures found { IfOk result (λ found. (s : Setting) (earlier : List Answered) (replay : AnyReplay) → s.dir ≡ dir.now → KnowsTurn s earlier (request_line turn.now.asked.now) replay turn.now.own turn.now.client.now
+        → IsFound s earlier (request_line turn.now.asked.now) None found) }
     ensures in_range { IfOk result (λ found. ForSome found (HasPageInRange dir.now)) }
     ensures recorded { (records : List AnyRecord) → IfOk result (λ found. IfSome found (IsReplyOf dir.now records)) }
 {
-    match own {
+    let client = turn.client;
+    match turn.own {
         Some(_) => Ok(None),
         None => refused(
             alloc,
@@ -85,7 +88,7 @@ fn unplaced(
             client.used,
             client.slots,
             client.last.as_ref(),
-            &asked.request,
+            &turn.asked.request,
         ),
     }
 }
@@ -95,33 +98,33 @@ fn placed(
     alloc: Global,
     dir: &Directory,
     replay: &Replay,
-    client: &Client,
-    own: Option<u64>,
-    asked: &Asked,
-    hint: usize,
+    turn: &Turn<'_>,
     at: u64,
 ) -> Result<Option<Reply>, NoMemory>
-    requires known { IfSome (requested_name asked.now.request) (Contains dir.now) }
-    requires last_in_range { ForSome client.now.last (HasPageInRange dir.now) }
+    requires known { IfSome (requested_name turn.now.asked.now.request) (Contains dir.now) }
+    requires last_in_range { ForSome turn.now.client.now.last (HasPageInRange dir.now) }
     requires here { replay.now.at ≡ at }
-    ensures found { IfOk result (λ found. (s : Setting) (earlier : List Answered) → s.dir ≡ dir.now → KnowsTurn s earlier (request_line asked.now) replay.now own client.now
-        → IsFound s earlier (request_line asked.now) (Some at) found) }
+    ensures found { IfOk result (λ found. (s : Setting) (earlier : List Answered) → s.dir ≡ dir.now → KnowsTurn s earlier (request_line turn.now.asked.now) replay.now turn.now.own turn.now.client.now
+        → IsFound s earlier (request_line turn.now.asked.now) (Some at) found) }
     ensures in_range { IfOk result (λ found. ForSome found (HasPageInRange dir.now)) }
     ensures recorded { (records : List AnyRecord) → All (λ (p : AnyPair). p.val < length records) replay.now.map → IfOk result (λ found. IfSome found (IsReplyOf dir.now records)) }
 {
+    let client = turn.client;
     if at < client.seen {
         return Ok(None);
     }
-    match own {
+    match turn.own {
         None => of_look(
             alloc,
             &replay.map,
             dir,
             client.last.as_ref(),
-            &asked.request,
-            hint,
+            &turn.asked.request,
+            turn.hint,
         ),
-        Some(own) if own == at && client.seen < at => Ok(of_update(&asked.request, replay.was)),
+        Some(own) if own == at && client.seen < at => {
+            Ok(of_update(&turn.asked.request, replay.was))
+        }
         Some(_) => Ok(None),
     }
 }

@@ -2,11 +2,10 @@
 use crate::served::told;
 use bucket_terms::Placed;
 use client_run::Gate;
-use client_threads::{Runner, Threaded};
-use key_names::{Directory, NoMemory};
-use request_lines::Session;
+use client_threads::{RunInput, Runner, Threaded};
+use key_names::NoMemory;
 use serve_session::Status;
-use shared_index::{PassKey, SharedIndex};
+use shared_index::PassKey;
 use std::alloc::Global;
 use std::sync::Wait;
 use std::sync::atomic::{AtomicBool, AtomicU32, Ordering};
@@ -143,28 +142,22 @@ impl Runner<Watch> for Threaded {
         &mut self,
         rt: &Rt,
         alloc: Global,
-        index: &SharedIndex,
         keys: Vec<PassKey>,
-        session: &Session,
-        dir: &Directory,
-        gate: &Watch,
+        input: &RunInput<'_, Watch>,
     ) -> Result<Vec<PassKey>, NoMemory> {
-        self.run_on_threads(rt, alloc, index, keys, session, dir, gate)
+        self.run_on_threads(rt, alloc, keys, input)
     }
 
     fn run_pool<Rt: Threads + Wait + Sync>(
         &mut self,
         rt: &Rt,
         alloc: Global,
-        index: &SharedIndex,
         keys: Vec<PassKey>,
-        session: &Session,
-        dir: &Directory,
-        gate: &Watch,
+        input: &RunInput<'_, Watch>,
         own: u32,
         room: u32,
     ) -> Result<Vec<PassKey>, NoMemory> {
-        self.pool_on_threads(rt, alloc, index, keys, session, dir, gate, own, room)
+        self.pool_on_threads(rt, alloc, keys, input, own, room)
     }
 
     fn replies(&self, client: u32) -> &[Placed] {

@@ -8,10 +8,8 @@ ghost use Rattle.client_threads.specs.Sizes.{CanServe};
 use crate::sessions::{one_client, session_of};
 use bucket_terms::{KeyPass, Reply};
 use client_run::OpenGate;
-use client_threads::{Runner, Threaded};
+use client_threads::{RunInput, Runner, Threaded};
 use key_map::PassSize;
-use key_names::Directory;
-use request_lines::Session;
 use shared_index::{PassKey, SharedIndex};
 use std::alloc::Global;
 use std::sync::Wait;
@@ -50,17 +48,15 @@ fn found_over<Rt: Threads + Wait + Sync, R: Runner<OpenGate>>(
     rt: &Rt,
     alloc: Global,
     runner: &mut R,
-    index: &SharedIndex,
+    input: &RunInput<'_, OpenGate>,
     key: PassKey,
     size: PassSize,
-    session: &Session,
-    dir: &Directory,
 ) -> Result<(Option<u64>, u64), Fail>
-    requires can { CanServe dir.now session.now }
-    requires of { IsKeyOf index.now key }
+    requires can { CanServe input.now.dir.now input.now.session.now }
+    requires of { IsKeyOf input.now.index.now key }
     requires fresh { shown key ≡ fresh 0 size }
 {
-    let [part] = session.clients.as_slice() else {
+    let [part] = input.session.clients.as_slice() else {
         return Err("not one client")?;
     };
     if part.writes() > size.calls {
@@ -68,7 +64,7 @@ fn found_over<Rt: Threads + Wait + Sync, R: Runner<OpenGate>>(
     }
     let mut keys = Vec::new(alloc);
     keys.push(key)?;
-    runner.run_all(rt, alloc, index, keys, session, dir, &OpenGate)?;
+    runner.run_all(rt, alloc, keys, input)?;
     let [placed] = runner.replies(0) else {
         return Err("not one reply")?;
     };
@@ -96,7 +92,13 @@ fn found_beside<P: KeyPass, Rt: Threads + Wait + Sync, R: Runner<OpenGate>>(
         return Err("no put")?;
     }
     let (session, dir) = session_of(alloc, one_client().as_bytes())?;
-    found_over(rt, alloc, runner, index, key, size, &session, &dir)
+    let input = RunInput {
+        index,
+        session: &session,
+        dir: &dir,
+        gate: &OpenGate,
+    };
+    found_over(rt, alloc, runner, &input, key, size)
 }
 
 // The same, with the keys of both passes and the runner of the program.

@@ -17,9 +17,9 @@ run_pool-requires-clause-fits g c =
 
 pub returns-in-Pooled-clause-ran : goal.returns-in-Pooled-clause-ran
 returns-in-Pooled-clause-ran g c =
-    let dir = c.args.dir.now in
-    let index = c.args.index.now in
-    let parts = parts_of c.args.session.now.clients in
+    let dir = c.args.input.now.dir.now in
+    let index = c.args.input.now.index.now in
+    let parts = parts_of c.args.input.now.session.now.clients in
     let keys = c.args.keys.items in
     let replies = g.R.Runner.replied c.run_pool.new.self in
     subst (λ (s : NodeSlots). IfOk c.run_pool.result (λ back. RanBehindEach (named s) dir index parts keys back.items replies)) (sym c.in-Pooled.is)
@@ -28,9 +28,9 @@ returns-in-Pooled-clause-ran g c =
 
 pub returns-in-AsAsked : goal.returns-in-AsAsked
 returns-in-AsAsked g c =
-    let dir = c.args.dir.now in
-    let index = c.args.index.now in
-    let parts = parts_of c.args.session.now.clients in
+    let dir = c.args.input.now.dir.now in
+    let index = c.args.input.now.index.now in
+    let parts = parts_of c.args.input.now.session.now.clients in
     let keys = c.args.keys.items in
     let replies = g.R.Runner.replied c.run_all.new.self in
     record {

@@ -17,21 +17,21 @@ use Rattle.client_threads.proofs.pooled.pool_job.Goals as goal
 pub run_pooled-requires-clause-askable : goal.run_pooled-requires-clause-askable
 run_pooled-requires-clause-askable g c =
     let number = c.client.ensures.number ∙ ap (λ (p : Pass). p.number) c.attach-pass.ensures.same ∙ ap (λ (j : SeatedKey). j.key.number) c.job.view_is in
-    subst (All (IsAskable c.args.dir.now))
-    (sym (key_lines c.args.parts.now c.args.job.key.number c.client.result c.index-parts-client.result number c.requires.can.there c.index-parts-client.is)) c.requires.can.can.askable
+    subst (All (IsAskable c.args.input.now.dir.now))
+    (sym (key_lines c.args.input.now.session.now.clients c.args.job.key.number c.client.result c.index-parts-client.result number c.requires.can.there (rw c.as_slice-parts.ensures at c.index-parts-client.is))) c.requires.can.can.askable
 
 pub run_pooled-requires-clause-rising : goal.run_pooled-requires-clause-rising
 run_pooled-requires-clause-rising g c =
     let number = c.client.ensures.number ∙ ap (λ (p : Pass). p.number) c.attach-pass.ensures.same ∙ ap (λ (j : SeatedKey). j.key.number) c.job.view_is in
-    subst Rise (sym (key_lines c.args.parts.now c.args.job.key.number c.client.result c.index-parts-client.result number c.requires.can.there c.index-parts-client.is)) c.requires.can.can.rising
+    subst Rise (sym (key_lines c.args.input.now.session.now.clients c.args.job.key.number c.client.result c.index-parts-client.result number c.requires.can.there (rw c.as_slice-parts.ensures at c.index-parts-client.is))) c.requires.can.can.rising
 
 pub run_pooled-requires-clause-later : goal.run_pooled-requires-clause-later
 run_pooled-requires-clause-later g c =
     let number = c.client.ensures.number ∙ ap (λ (p : Pass). p.number) c.attach-pass.ensures.same ∙ ap (λ (j : SeatedKey). j.key.number) c.job.view_is in
     let same = c.attach-pass.ensures.same ∙ ap (λ (j : SeatedKey). j.key) c.job.view_is in
     subst (λ (ls : List RequestLine). All (λ (l : RequestLine). IsLaterLine (shown c.attach-pass.result) l.line) ls)
-    (sym (key_lines c.args.parts.now c.args.job.key.number c.client.result c.index-parts-client.result number c.requires.can.there c.index-parts-client.is))
-    (subst (λ (p : Pass). All (λ (l : RequestLine). IsLaterLine (shown p) l.line) (lines_of (parts_of c.args.parts.now) c.args.job.key.number)) (sym same) c.requires.can.can.later)
+    (sym (key_lines c.args.input.now.session.now.clients c.args.job.key.number c.client.result c.index-parts-client.result number c.requires.can.there (rw c.as_slice-parts.ensures at c.index-parts-client.is)))
+    (subst (λ (p : Pass). All (λ (l : RequestLine). IsLaterLine (shown p) l.line) (lines_of (parts_of c.args.input.now.session.now.clients) c.args.job.key.number)) (sym same) c.requires.can.can.later)
 
 pub returns : goal.returns
 returns g c =
@@ -39,9 +39,9 @@ returns g c =
     let same = c.attach-pass.ensures.same ∙ ap (λ (j : SeatedKey). j.key) c.job.view_is in
     record {
       over =
-          pooled_key c.args.own c.args.dir.now c.args.index.now (lines_of (parts_of c.args.parts.now) c.args.job.key.number) (request_lines c.index-parts-client.result) c.args.job.key
+          pooled_key c.args.own c.args.input.now.dir.now c.args.input.now.index.now (lines_of (parts_of c.args.input.now.session.now.clients) c.args.job.key.number) (request_lines c.index-parts-client.result) c.args.job.key
           c.attach-pass.result c.run_pooled.new.pass c.detach.result c.in_ok-replies.replies.items c.from_vec.result _ _ _ c.requires.can.can.of same
-          (key_lines c.args.parts.now c.args.job.key.number c.client.result c.index-parts-client.result number c.requires.can.there c.index-parts-client.is)
+          (key_lines c.args.input.now.session.now.clients c.args.job.key.number c.client.result c.index-parts-client.result number c.requires.can.there (rw c.as_slice-parts.ensures at c.index-parts-client.is))
           c.in_ok-replies.ensures.ran c.in_ok-replies.ensures.home c.detach.ensures.same c.from_vec.ensures;
       seat = subst (λ (j : SeatedKey). IsSameSeat j.seat c.run_pooled.new.seat) c.job.view_is c.in_ok-replies.ensures.seat;
       nodes =

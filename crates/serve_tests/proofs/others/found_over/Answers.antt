@@ -49,10 +49,10 @@ can_run_one dir session part index key size can of fresh_is one is few = record 
 
 pub run_all-requires-clause-can : goal.run_all-requires-clause-can
 run_all-requires-clause-can g c =
-    let session = c.args.session.now in
+    let session = c.args.input.now.session.now in
     let part = c.part-item.result in
     let one : length session.clients ≡ 1 = omega (arith, ap length c.as_slice.ensures, c.in-len1.len_at_least, c.in-len1.len_below) in
     let is : part ≡ get_or session.clients 0 part = subst (λ (cs : List ClientPart). part ≡ get_or cs 0 part) c.as_slice.ensures c.part-item.is in
     let few : updates_in (request_lines part) ≤ c.args.size.calls = omega (arith, c.writes.ensures, c.if-writes-size.false) in
     rw (c.in_ok-push.ensures.items, c.new-keys.ensures.items)
-    (can_run_one c.args.dir.now session part c.args.index.now c.args.key c.args.size c.requires.can c.requires.of c.requires.fresh one is few)
+    (can_run_one c.args.input.now.dir.now session part c.args.input.now.index.now c.args.key c.args.size c.requires.can c.requires.of c.requires.fresh one is few)

@@ -1,0 +1,15 @@
+// What clients are run from.
+use client_run::Gate;
+use key_names::Directory;
+use request_lines::Session;
+use shared_index::SharedIndex;
+
+/// What clients are run from, besides the keys of their passes: the index, the session, the directory of its names, and
+/// the gate that is notified of each request.
+#[derive(Drop)]
+pub struct RunInput<'a, G: Gate> {
+    pub index: &'a SharedIndex,
+    pub session: &'a Session,
+    pub dir: &'a Directory,
+    pub gate: &'a G,
+}
