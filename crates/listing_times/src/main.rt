@@ -3,8 +3,8 @@
 //
 //     way KEYS LISTINGS       each search goes on from the way to the last pair
 //     root KEYS LISTINGS      each search begins at the root
-//     near KEYS LISTINGS      as `way`, with keys near one another, as the ranks of names are; fewer, since some are put
-//                             several times
+//     near KEYS LISTINGS      as `way`, with keys near one another, as the ranks of names are; fewer, since some are
+//                             put several times
 //     hinted KEYS LISTINGS    as `near`, with the hints of an earlier listing
 //     stale KEYS LISTINGS     as `near`, one listing, with the hints of a listing before all keys were put anew
 //     beside KEYS LISTINGS    as `way`, by three passes on threads, next to one that puts all keys again so many times
@@ -24,8 +24,8 @@ use std::thread::Threads;
 use std::{env, io};
 use work::Made;
 
-/// The small runs. Those with near keys list the same pairs, whatever the hints are: the last one, which lists once, half
-/// as many.
+/// The small runs. Those with near keys list the same pairs, whatever the hints are: the last one, which lists once,
+/// half as many.
 const SMALL: [Kind; 4] = [Kind::Beside, Kind::Near, Kind::Hinted, Kind::Stale];
 
 fn main(rt: HostRuntime) -> io::Result<()> {

@@ -90,9 +90,9 @@ impl SharedIndex {
         &self.table
     }
 
-    /// Takes up the work of a pass. No snapshot is open, and everything else is as the key has it. If the index has many
-    /// node slots, the pass takes memory for hints, 4 bytes a slot, by which long listings load ahead. Without that memory
-    /// its answers are the same.
+    /// Takes up the work of a pass. No snapshot is open, and everything else is as the key has it. If the index has
+    /// many node slots, the pass takes memory for hints, 4 bytes a slot, by which long listings load ahead. Without
+    /// that memory its answers are the same.
     ///
     /// ```
     /// let mut pass = index.attach(key);

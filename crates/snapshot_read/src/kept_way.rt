@@ -75,8 +75,8 @@ impl Search {
 }
 
 /// The searches that go on where one search of the open snapshot has not looked: to the right of the nodes at which it
-/// went to the left. They are for one snapshot, and take no memory. Hints of the nodes of keys stay from one snapshot to
-/// the next; contracts do not see them.
+/// went to the left. They are for one snapshot, and take no memory. Hints of the nodes of keys stay from one snapshot
+/// to the next; contracts do not see them.
 #[derive(Drop)]
 pub struct Way {
     steps: [Search; 32],
@@ -139,8 +139,8 @@ impl Way {
         self.count += 1;
     }
 
-    /// Keeps the search that goes on to the right of a node with this key, which a search for `asked` has met. It is not
-    /// kept if no key is higher.
+    /// Keeps the search that goes on to the right of a node with this key, which a search for `asked` has met. It is
+    /// not kept if no key is higher.
     pub(crate) fn keep_right(
         &mut self,
         pass: &mut TablePass<'_>,
