@@ -37,8 +37,8 @@ pub(crate) struct Client {
     pub(crate) last: Option<Reply>,
 }
 
-/// A request whose reply line is looked at: the number of its client and what is known of it, the place of the update of
-/// the request, and where the directory may have its name.
+/// A request whose reply line is looked at: the number of its client and what is known of it, the place of the update
+/// of the request, and where the directory may have its name.
 #[derive(Clone, Copy)]
 pub(crate) struct Turn<'a> {
     pub(crate) number: u32,

@@ -229,9 +229,9 @@ pub(crate) fn prune_link(pass: &mut TablePass<'_>, at: Link, own: Least, longest
     least
 }
 
-/// Cuts the bundles in front of which an update has put its entries. `number` is the one at which the pass reads. A pass
-/// that owns more than its share leaves them to passes that own too few, which gather them. Else a pass that takes out
-/// what another one puts would come to own all entries, since the entries of a node go to whoever takes it out.
+/// Cuts the bundles in front of which an update has put its entries. `number` is the one at which the pass reads. A
+/// pass that owns more than its share leaves them to passes that own too few, which gather them. Else a pass that takes
+/// out what another one puts would come to own all entries, since the entries of a node go to whoever takes it out.
 pub fn prune_all(pass: &mut TablePass<'_>, plan: &Plan, slots: &PlanSlots, number: u64)
     requires numbered { HasNumbered pass.old.view pass.old.number plan.now slots.now }
     requires least { pass.old.view.reading.least ≡ Some number }
