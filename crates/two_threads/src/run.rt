@@ -57,27 +57,21 @@ pub(crate) struct Left {
     pub(crate) turn: Turn,
 }
 
-/// What both threads share.
-#[derive(Clone, Copy)]
-struct Common<'a> {
-    index: &'a SharedIndex,
-    dir: &'a Directory,
-    query: &'a ListQuery,
-}
-
 /// Takes up the pass of a key for a turn.
 fn turn_of<Rt: Wait>(
     rt: &Rt,
     alloc: Global,
-    common: &Common<'_>,
+    index: &SharedIndex,
     key: PassKey,
+    dir: &Directory,
+    query: &ListQuery,
     task: Task,
 ) -> Result<Left, NoMemory>
-    requires of { IsKeyOf common.now.index.now key }
-    ensures left { IfOk result (LaidDown common.now.index.now common.now.dir.now common.now.query.now task key) }
+    requires of { IsKeyOf index.now key }
+    ensures left { IfOk result (LaidDown index.now dir.now query.now task key) }
 {
-    let mut pass = common.index.attach(key);
-    let turn = take_turn(rt, alloc, &mut pass, common.dir, common.query, task)?;
+    let mut pass = index.attach(key);
+    let turn = take_turn(rt, alloc, &mut pass, dir, query, task)?;
     let key = pass.detach();
     Ok(Left { key, turn })
 }
@@ -86,24 +80,26 @@ fn turn_of<Rt: Wait>(
 fn both_turns<Rt: Threads + Wait + Sync>(
     rt: &Rt,
     alloc: Global,
-    common: &Common<'_>,
+    index: &SharedIndex,
     keys: (PassKey, PassKey),
+    dir: &Directory,
+    query: &ListQuery,
     tasks: (Task, Task),
 ) -> Result<(Left, Left), NoMemory>
-    requires first { IsKeyOf common.now.index.now keys.0 }
-    requires second { IsKeyOf common.now.index.now keys.1 }
-    ensures first { IfOk result (λ left. LaidDown common.now.index.now common.now.dir.now common.now.query.now tasks.0 keys.0 left.0) }
-    ensures second { IfOk result (λ left. LaidDown common.now.index.now common.now.dir.now common.now.query.now tasks.1 keys.1 left.1) }
+    requires first { IsKeyOf index.now keys.0 }
+    requires second { IsKeyOf index.now keys.1 }
+    ensures first { IfOk result (λ left. LaidDown index.now dir.now query.now tasks.0 keys.0 left.0) }
+    ensures second { IfOk result (λ left. LaidDown index.now dir.now query.now tasks.1 keys.1 left.1) }
 {
     let ((first, second), (task, other)) = (keys, tasks);
     let here = move || -> Result<Left, NoMemory>
-        requires { IsKeyOf common.now.index.now first }
-        ensures { IfOk result (LaidDown common.entry.now.index.now common.entry.now.dir.now common.entry.now.query.now task first) }
-    { turn_of(rt, alloc, common, first, task) };
+        requires { IsKeyOf index.now first }
+        ensures { IfOk result (LaidDown index.entry.now dir.entry.now query.entry.now task first) }
+    { turn_of(rt, alloc, index, first, dir, query, task) };
     let there = move || -> Result<Left, NoMemory>
-        requires { IsKeyOf common.now.index.now second }
-        ensures { IfOk result (LaidDown common.entry.now.index.now common.entry.now.dir.now common.entry.now.query.now other second) }
-    { turn_of(rt, alloc, common, second, other) };
+        requires { IsKeyOf index.now second }
+        ensures { IfOk result (LaidDown index.entry.now dir.entry.now query.entry.now other second) }
+    { turn_of(rt, alloc, index, second, dir, query, other) };
     let (first, second) = join(rt, here, there);
     Ok((first?, second?))
 }
@@ -161,16 +157,11 @@ pub(crate) fn run<Rt: Threads + Wait + Sync>(
 {
     let (index, keys) = opened(alloc)?;
     let keys = both(keys);
-    let common = Common {
-        index: &index,
-        dir,
-        query,
-    };
     let tasks = (first.early, second.early);
-    let (early, other) = both_turns(rt, alloc, &common, keys, tasks)?;
+    let (early, other) = both_turns(rt, alloc, &index, keys, dir, query, tasks)?;
     let (giver, taker, handed) = hand_on(&index, early.key, other.key);
     let tasks = (first.late, second.late);
-    let (late, last) = both_turns(rt, alloc, &common, (giver, taker), tasks)?;
+    let (late, last) = both_turns(rt, alloc, &index, (giver, taker), dir, query, tasks)?;
     let keys = vec![in alloc; late.key, last.key]?;
     let Ok(history) = index.finish(alloc, keys) else {
         return Err(NoMemory);
