@@ -32,9 +32,10 @@ bucketidx: key_names key_map arrayvec
 key_map_tests: key_map
 """
 # `rt ci` prints what it does of two crates, and that a third is kept; `rt run` what it does of two. Both leave a program
-# that takes the one word `run`. `rt ci` wants a copy of the program's crates alone, without wrong bodies. Where it is slow
-# it becomes the command that sleeps: a shell that starts one as a child can lose a signal which comes between the two, and
-# then waits for the child to the end.
+# that takes the one word `run`. `rt ci` wants a copy of the program's crates alone, without wrong bodies. The call ahead
+# leaves its number and never ends by itself; the other one waits until it has begun. Where a call sleeps it becomes the
+# command that does: a shell that starts one as a child can lose a signal which comes between the two, and then waits for
+# the child to the end.
 KIT = """#!/bin/sh
 block() { echo "so far: 1 of 2 functions checked"; echo "crate $1: modules loaded=1"; echo "logic=proved functions=2"; }
 case $1 in
@@ -42,6 +43,8 @@ ci)
     [ "$(ls crates | tr '\\n' ' ')" = "bucketidx key_map key_names " ] && [ -f HANDLES ] && ! grep -q tests crates.txt ||
         { echo "error: not a copy of the program's crates alone"; exit 1; }
     [ ! -e crates/key_map/must-fail ] && [ ! -e crates/key_map/out ] || { echo "error: too much in the copy"; exit 1; }
+    [ "${2-}" != shared_index ] || { echo $$ >"$TMPDIR/ahead"; exec sleep 600; }
+    until [ -s "$TMPDIR/ahead" ]; do sleep 0.01; done
     echo "rt: key_names is kept: an earlier run on this machine proved the same files"
     echo "== key_map"; echo "fn key_map::put: proved"; block key_map; echo "rt: key_map proved"
     [ -z "${BROKEN:-}" ] || { echo "== bucketidx"; echo "error: no proof of a clause"; echo "rt: bucketidx NOT PROVED"
@@ -67,6 +70,7 @@ echo "$last"
 def run(top, words, kit="kit", **more):
     path = "%s:%s" % (top / kit, os.environ["PATH"])
     here = {**os.environ, "PATH": path, "TMPDIR": str(top / "tmp"), **more}
+    (top / "tmp" / "ahead").unlink(missing_ok=True)
     ran = subprocess.run([top / "bucketidx", *words], input=b"a session\n", capture_output=True, env=here)
     return ran.returncode, ran.stdout.decode(), ran.stderr.decode()
 
@@ -126,8 +130,17 @@ def try_words(top):
         expect("the page has %r" % part, part in page)
 
 
+def ended_ahead(top):
+    """Whether the call ahead has ended. The other call waits until it has begun."""
+    try:
+        os.kill(int((top / "tmp" / "ahead").read_text()), 0)
+    except ProcessLookupError:
+        return True
+    return False
+
+
 def try_a_stop(top):
-    """A build that is stopped from the terminal ends with 130, and leaves no copy."""
+    """A build that is stopped from the terminal ends with 130, ends the call ahead, and leaves no copy."""
     path = "%s:%s" % (top / "kit", os.environ["PATH"])
     here = {**os.environ, "PATH": path, "TMPDIR": str(top / "tmp"), "SLOW": "yes"}
     how = {"stdin": subprocess.DEVNULL, "stdout": subprocess.DEVNULL, "stderr": subprocess.PIPE, "start_new_session": True}
@@ -139,6 +152,7 @@ def try_a_stop(top):
                 break
         os.killpg(started.pid, signal.SIGINT)
         expect("a build that was stopped ends with 130", started.wait(30) == 130)
+    expect("it ends the call ahead", ended_ahead(top))
     expect("it leaves no copy", not [path for path in (top / "tmp").iterdir() if path.is_dir()])
 
 
@@ -149,8 +163,9 @@ def try_builds(top):
     expect("the first run builds", status == 0 and out == "a session\n")
     told = [line for line in said.splitlines() if "proved" in line and " of 3 crates" in line]
     names = [line.split(",")[0] for line in told]
-    expect("it reports each crate: " + said, names == ["bucketidx: proved key_map", "bucketidx: proved bucketidx"])
-    expect("and counts what is kept", "2 of 3" in told[0] and "3 of 3" in told[1])
+    expect("it reports each crate: " + said, names == ["bucketidx: proved " + name for name in ("key_names", "key_map", "bucketidx")])
+    expect("and counts them", all("%d of 3" % (place + 1) in line for place, line in enumerate(told)))
+    expect("a build ends the call ahead", ended_ahead(top))
     expect("no copy is left", not [path for path in (top / "tmp").iterdir() if path.is_dir()])
     expect("the second run is silent", run(top, ["run"]) == (0, "a session\n", ""))
     source = top / "crates" / "key_map" / "src" / "lib.rt"
