@@ -43,7 +43,7 @@ ci)
     [ "$(ls crates | tr '\\n' ' ')" = "bucketidx key_map key_names " ] && [ -f HANDLES ] && ! grep -q tests crates.txt ||
         { echo "error: not a copy of the program's crates alone"; exit 1; }
     [ ! -e crates/key_map/must-fail ] && [ ! -e crates/key_map/out ] || { echo "error: too much in the copy"; exit 1; }
-    [ "${2-}" != shared_index ] || { echo $$ >"$TMPDIR/ahead"; exec sleep 600; }
+    [ "${2-}" != shared_index ] || { echo $$ >"$TMPDIR/../ahead"; touch "$TMPDIR/left"; exec sleep 600; }
     until [ -s "$TMPDIR/ahead" ]; do sleep 0.01; done
     echo "rt: key_names is kept: an earlier run on this machine proved the same files"
     echo "== key_map"; echo "fn key_map::put: proved"; block key_map; echo "rt: key_map proved"
