@@ -5,10 +5,10 @@ ghost use Rattle.table_steps.specs.Passes.{AtRest, IsAlone, IsSamePass};
 ghost use Rattle.table_steps.specs.Raises.{IsRaisedSince};
 ghost use Rattle.table_steps.specs.Stamps.{outside_again};
 ghost use Rattle.tree_update.specs.Calls.{StaysOn, HasMade, MakesPut, IsPlaceOfPut};
-ghost use Rattle.update_search.specs.Aims.{has_found};
+ghost use Rattle.update_search.specs.Aims.{has_found, is_put};
 ghost use Rattle.update_search.specs.Outcomes.{HasRisen};
 ghost use Rattle.update_try.specs.Parting.{EndsAs};
-ghost use Rattle.tree_update.specs.Trying.{EndsBy, IsMissed, IsOutOfFreeSlots, OffersSlots, IfDone, IfBusy, IfMoved, IfPending, UnlessDone, IsMade};
+ghost use Rattle.tree_update.specs.Trying.{IsMissed, IsOutOfFreeSlots, OffersSlots, IfDone, IfBusy, IfMoved, IfPending, UnlessDone, IsMade};
 ghost use Rattle.bundle_reads.specs.Links.{InsideAt};
 
 use core_updates::PlanSlots;
@@ -83,7 +83,8 @@ pub(crate) fn try_update(
     requires slots { OffersSlots pass.old.view slots.now }
     ensures same { IsSamePass pass.old pass.new }
     ensures rest { IfErr result (λ missed. AtRest pass.new.view) }
-    ensures ends { IfOk result (λ carried. EndsBy change pass.new.view pass.new.number carried.parted) }
+    ensures ends { IfOk result (λ carried. EndsAs pass.new.view pass.new.number carried.parted) }
+    ensures put { IfOk result (λ carried. is_put change ≡ true → carried.parted ≡ None) }
     ensures made { IfOk result (λ carried. HasMade pass.old.view pass.new.view pass.old.number line key change carried.done) }
     ensures raise { IfOk result (λ carried. IsRaisedSince pass.old (update_of pass.old.number line key change) carried.done.at pass.new.view) }
     ensures absent { IfOk result (λ carried. only_new ≡ true → carried.done.was ≡ false) }

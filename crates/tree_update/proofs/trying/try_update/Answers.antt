@@ -1,4 +1,4 @@
-use Rattle.std.proofs.Common.{◌≡◌, ◌∙◌, ◌&&◌, ℕ, Bool, true, false, arith, refl, ap, sym, subst, Option, Some, IfSome}
+use Rattle.std.proofs.Common.{◌≡◌, ◌∙◌, ◌&&◌, ℕ, Bool, true, false, arith, refl, ap, sym, subst, Option, None, Some, IfSome}
 use Rattle.bundle_reads.proofs.ReadMoves.{same_more}
 use Rattle.core_updates.specs.Ready.{update_of}
 use Rattle.index_words.specs.declared.view.history.Counts.{Counts}
@@ -8,12 +8,11 @@ use Rattle.table_steps.specs.Raises.{IsRaisedSince}
 use Rattle.update_search.specs.declared.search.Aim.{Aim}
 use Rattle.index_words.specs.declared.view.View.{View}
 use Rattle.update_search.specs.Ends.{IsMissing}
-use Rattle.update_search.specs.Aims.{IsAim, IsAimOf, change_of, has_found, key_of}
-use Rattle.tree_update.specs.Trying.{EndsBy, FindsKey}
+use Rattle.update_search.specs.Aims.{IsAim, IsAimOf, has_found, is_put, key_of}
+use Rattle.tree_update.specs.Trying.{FindsKey}
 use Rattle.tree_update.proofs.Alone.{others_stay}
 use Rattle.tree_update.proofs.CallSteps.{kept_stays, search_stays, stays_more}
 use Rattle.tree_update.proofs.CallsMade.{made_as, has_made_more}
-use Rattle.tree_update.proofs.Ends.{ends_by}
 use Rattle.tree_update.proofs.TryMade.{counted_still, has_searched, offers_still, opened_counted, searched_inside, searched_waits, try_counted}
 use Rattle.tree_update.proofs.trying.try_update.Goals as goal
 
@@ -56,14 +55,11 @@ carry_out-requires-clause-left c =
     omega (arith, c.requires.left, stays.goes.left)
 
 -- the update is made
-pub returns-in-Ok-clause-ends : goal.returns-in-Ok-clause-ends
-returns-in-Ok-clause-ends c =
-    let q = c.carry_out.new.pass in
-    let aim = c.in-Ok-Some.aim in
+pub returns-in-Ok-clause-put : goal.returns-in-Ok-clause-put
+returns-in-Ok-clause-put c =
     let of : IsAimOf c.args.key c.args.change c.in-Ok-Some.aim
     = aim_of c.args.key c.args.change c.in-Ok-Some.field-0 c.in-Ok-Some.aim c.in-Ok-Some.field-0-is c.in-Ok-Some.ensures.of in
-    subst (λ (d : Change). EndsBy d q.view q.number c.in-Ok.carried.parted) of.change_is
-    (ends_by (change_of aim) q.view q.number c.in-Ok.carried.parted c.in-Ok.ensures.put c.in-Ok.ensures.ends)
+    subst (λ (d : Change). is_put d ≡ true → c.in-Ok.carried.parted ≡ None) of.change_is c.in-Ok.ensures.put
 
 pub returns-in-Ok-clause-made : goal.returns-in-Ok-clause-made
 returns-in-Ok-clause-made c =
