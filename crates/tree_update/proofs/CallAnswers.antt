@@ -132,5 +132,5 @@ module _ (p : Pass) (w : View) (line key : ℕ) (done : Done) where
       by_was : (b : Bool) → IsNotMade false Remove b → LooksFor p.view w key b done.at
           → MatchBool b (MakesChange p.view w p.number line key Remove done) (LooksFor p.view w key false done.at)
           × MatchBool b (IsRaisedSince p (update_of p.number line key Remove) done.at w) (IsFoundSince p done.at w)
-      by_was true why looked = cc
+      by_was true why looked = absurd (true_false false why refl)
       by_was false why looked = (looked, is.found)

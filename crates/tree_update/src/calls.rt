@@ -3,7 +3,7 @@
 //! Each tries until a try succeeds. It waits only between the tries: outside of the section, with no lock held and
 //! nothing pending, so that no other pass waits for it meanwhile. A removal may also wait after its update, with two
 //! locks held, as `ending` says.
-ghost use Rattle.std.specs.Prelude.{◌≡◌, ◌↔◌, ◌<◌, ◌≤◌, not, None, is_some, IfOk, IfSome, IsErrOf, OnErr};
+ghost use Rattle.std.specs.Prelude.{◌≡◌, ◌↔◌, ℕ, ◌<◌, ◌≤◌, not, None, is_some, IfOk, IfSome, IsErrOf, OnErr};
 ghost use Rattle.key_map.specs.Map.{value_at};
 ghost use Rattle.table_steps.specs.Passes.{AtRest, IsSamePass};
 ghost use Rattle.table_steps.specs.Stamps.{IsFoundSince};

@@ -1,4 +1,4 @@
-use Rattle.std.proofs.Common.{sym, subst}
+use Rattle.std.proofs.Common.{◌≡◌, sym, subst}
 use Rattle.key_map.specs.declared.pass.New.{New}
 use Rattle.key_map.specs.declared.pass.PassError.TheVariants.{NoSlot, Spent}
 use Rattle.tree_update.specs.Calls.{AnswersPutNew, IsPlaceOfNew, IsOutOfSlots}
