@@ -1,5 +1,5 @@
 -- What answers a call that updates the map: from earlier in the call on, and as the answer of each of the calls.
-use Rattle.std.proofs.Common.{◌≡◌, ◌∙◌, ◌⊎◌, ℕ, Bool, true, false, refl, ap, sym, subst, arith, inl, inr, Option, Some, None, IfSome}
+use Rattle.std.proofs.Common.{◌≡◌, ◌∙◌, ℕ, Bool, true, false, refl, ap, sym, subst, arith, inl, inr, Option, Some, None, IfSome}
 use Rattle.std.specs.Prelude.{MatchBool, if◌then◌else◌}
 use Rattle.index_words.specs.declared.view.View.{View}
 use Rattle.index_words.specs.declared.view.history.Counts.{Counts}

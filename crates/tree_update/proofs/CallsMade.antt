@@ -22,7 +22,7 @@ use Rattle.snapshot_read.specs.Snapshots.{HasBegun}
 use Rattle.tree_update.specs.Calls.{GoesOn, FixesNone, StaysOn, MakesChange, MovesNodes, LooksFor, HasMade, IsOutOfSlots, IsRefusal}
 use Rattle.tree_update.proofs.CallSteps.{fixes_more, made_more}
 use Rattle.update_search.specs.declared.search.Aim.{Aim}
-use Rattle.update_search.specs.declared.search.Aim.TheVariants.{Grow, Replace, Remove as RemoveAim}
+use Rattle.update_search.specs.declared.search.Aim.TheVariants.{Grow}
 use Rattle.update_search.specs.Aims.{change_of, has_found, key_of}
 use Rattle.update_try.specs.Carried.{HasCarriedOut, MovesNodes as TryMovesNodes}
 

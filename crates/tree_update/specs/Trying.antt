@@ -1,5 +1,5 @@
 -- The answer of one try of an update.
-use Rattle.std.specs.Prelude.{◌≡◌, ℕ, ◌+◌, ◌<◌, ◌⊎◌, Bool, true, false, not, if◌then◌else◌}
+use Rattle.std.specs.Prelude.{◌≡◌, ℕ, ◌+◌, ◌<◌, ◌⊎◌, Bool, true, not, if◌then◌else◌}
 use Rattle.index_words.specs.declared.view.View.{View}
 use Rattle.key_map.specs.declared.pass.Done.{Done}
 use Rattle.key_map.specs.declared.update.Change.{Change}

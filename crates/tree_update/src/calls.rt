@@ -109,7 +109,14 @@ fn try_once<R: Wait>(
     ensures later { result ≡ None → TriesLater wanted.only_new wanted.key wanted.change pass.old.view pass.new.view }
     ensures goes { result ≡ None → GoesOn pass.old.view pass.new.view }
 {
-    match try_update(pass, wanted.line, wanted.key, wanted.change, wanted.only_new, slots) {
+    match try_update(
+        pass,
+        wanted.line,
+        wanted.key,
+        wanted.change,
+        wanted.only_new,
+        slots,
+    ) {
         Ok(carried) => {
             end_removal(pass, rt, carried.parted);
             Some(carried.done)
