@@ -11,7 +11,7 @@ ghost use Rattle.tree_update.specs.Calls.{GoesOn, MakesPut, LooksFor, AnswersCal
 ghost use Rattle.tree_update.specs.Trying.{OffersSlots, TriesLater};
 
 use crate::ending::end_removal;
-use crate::trying::{Missed, try_update};
+use crate::trying::{Missed, Wanted, try_update};
 use crate::waits::{pause, wait_for_slots};
 use core_updates::PlanSlots;
 use index_words::{Change, Pair};
@@ -19,16 +19,6 @@ use key_map::{Done, New, PassError};
 use snapshot_read::{begin, end, next_from};
 use std::sync::Wait;
 use table_steps::TablePass;
-
-/// The update that a call is to make.
-#[derive(Clone, Copy)]
-struct Wanted {
-    line: u32,
-    key: u64,
-    change: Change,
-    /// Whether it is made only if the key is not there.
-    only_new: bool,
-}
 
 /// Whether the pair has this key.
 fn is_of_key(pair: Option<Pair>, key: u64) -> bool
@@ -109,14 +99,7 @@ fn try_once<R: Wait>(
     ensures later { result ≡ None → TriesLater wanted.only_new wanted.key wanted.change pass.old.view pass.new.view }
     ensures goes { result ≡ None → GoesOn pass.old.view pass.new.view }
 {
-    match try_update(
-        pass,
-        wanted.line,
-        wanted.key,
-        wanted.change,
-        wanted.only_new,
-        slots,
-    ) {
+    match try_update(pass, wanted, slots) {
         Ok(carried) => {
             end_removal(pass, rt, carried.parted);
             Some(carried.done)
