@@ -1,19 +1,23 @@
 -- One answer, if the pass has gathered entries before it.
-use Rattle.std.proofs.Common.{◌≡◌, ℕ, ◌+◌, ◌<◌, ◌≤◌, ◌⊎◌, List, Option, Some, inl, inr, length, refl, sym, ap, ◌∙◌, subst, arith}
+use Rattle.std.proofs.Common.{◌≡◌, ℕ, ◌+◌, ◌<◌, ◌≤◌, ◌⊎◌, List, Option, Some, None, Err, IsErrOf, ◌↔◌, inl, inr, length, refl, sym, ap, ◌∙◌, subst, arith}
 use Rattle.std.specs.List.{slice_get, count_by}
 use Rattle.std.proofs.lemmas.Bool.{cases_lt}
 use Rattle.std.proofs.lemmas.List.{length-append}
+use Rattle.key_map.specs.declared.pass.PassError.{PassError}
+use Rattle.key_map.specs.declared.pass.PassError.TheVariants.{NoSlot, Spent}
 use Rattle.key_map.specs.declared.update.Update.{Update}
 use Rattle.bucket_terms.specs.declared.request.Request.{Request}
 use Rattle.bucket_terms.specs.declared.reply.Reply.{Reply}
+use Rattle.bucket_terms.specs.declared.reply.Reply.TheVariants.{NoSlot as NoSlotReply}
 use Rattle.bucket_terms.specs.Gathering.{Gathered}
 use Rattle.bucket_terms.specs.LegalRun.{Answered, IsRight, IsMadeBy}
-use Rattle.bucket_terms.specs.PassView.{PassView, KnowsOwn, IsShort}
+use Rattle.bucket_terms.specs.PassView.{PassView, KnowsOwn, IsOutOfSlots, IsShort}
 use Rattle.bucket_terms.specs.Pool.{Traded}
 use Rattle.bucket_terms.specs.RunParts.{is_earlier_of}
 use Rattle.client_run.specs.ClientRun.{setting, answered, Answers, HasLooked, IsLaterLine}
 use Rattle.client_run.proofs.OneMore.{places_from_old}
 use Rattle.client_run.proofs.Places.{slice_get-append_front}
+use Rattle.client_run.proofs.Replies.{refused_answers}
 use Rattle.client_run.proofs.TradedAnswers.{extends_on, extends_length, none_own, later_traded, earlier_traded}
 
 -- apart from its entries the pass is as after a trade of no node slots
@@ -91,3 +95,18 @@ gathered_answers dir old mid new last line request at reply knows g step =
 -- nor has it put a later own update into what the pass has seen
 pub later_gathered : (old mid : PassView) (line : ℕ) → KnowsOwn old → Gathered old mid → IsLaterLine old line → IsLaterLine mid line
 later_gathered old mid line knows g later = later_traded old (with_entries_of old mid) (traded_none old mid g) knows line later
+
+-- calls are left after it, so it is not for want of them that an update is refused
+pub not_spent : {T : Type 0} (old mid : PassView) (e : PassError) → Gathered old mid → 0 < old.left → IsErrOf {T = T} (Err e) Spent ↔ (mid.left ≡ 0) → ¬ (e ≡ Spent)
+not_spent old mid e g left spent is = absurd (omega (arith, left, g.left, spent.0 (ap (λ (x : PassError). Err x) is)))
+
+-- an update was refused after it
+pub not_made_answers : {T : Type 0} (dir : List (List ℕ)) (old mid new : PassView) (last : Option Reply) (line : ℕ) (request : Request) (e : PassError)
+    → KnowsOwn old → Gathered old mid → new ≡ mid → e ≡ NoSlot → IsErrOf {T = T} (Err e) NoSlot ↔ IsOutOfSlots mid
+    → (IsShort mid → (slots : ℕ) → (IsShort mid → slots ≤ count_by (is_earlier_of (setting dir mid slots) line) mid.seen)
+    → IsRight (setting dir mid slots) last (record { line = line; request = request }) None NoSlotReply)
+    → Answers dir old new last (answered line request (record { client = old.number; line = line; at = None; reply = NoSlotReply }))
+not_made_answers dir old mid new last line request e knows g same cause no_slot right =
+    let short = no_slot.0 (ap (λ (x : PassError). Err x) cause) in
+    gathered_answers dir old mid new last line request None NoSlotReply knows g
+    (refused_answers dir mid new last line request (g.own knows) same g.closed short (right short.1))

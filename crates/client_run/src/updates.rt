@@ -59,8 +59,7 @@ pub(crate) fn put<P: KeyPass, Rt: Wait>(
     let target = prepare(rt, pass, turn, name);
     match pass.put(rt, line, target.key, val) {
         Ok(done) => answer_at(target.client, line, done.at, Reply::Put { was: done.was }),
-        Err(PassError::NoSlot) => refused(target.client, line, Reply::NoSlot),
-        Err(PassError::Spent) => unreachable!(),
+        Err(error) => not_made(target.client, line, error),
     }
 }
 
@@ -85,8 +84,7 @@ pub(crate) fn put_new<P: KeyPass, Rt: Wait>(
     match pass.put_new(rt, line, target.key, val) {
         Ok(New::Made { at }) => answer_at(target.client, line, at, Reply::Put { was: false }),
         Ok(New::Kept { at }) => answer_at(target.client, line, at, Reply::Exists),
-        Err(PassError::NoSlot) => refused(target.client, line, Reply::NoSlot),
-        Err(PassError::Spent) => unreachable!(),
+        Err(error) => not_made(target.client, line, error),
     }
 }
 
@@ -109,8 +107,19 @@ pub(crate) fn delete<P: KeyPass, Rt: Wait>(
     let target = prepare(rt, pass, turn, name);
     match pass.remove(rt, line, target.key) {
         Ok(done) => answer_at(target.client, line, done.at, Reply::Deleted),
-        Err(PassError::NoSlot) => refused(target.client, line, Reply::NoSlot),
-        Err(PassError::Spent) => unreachable!(),
+        Err(error) => not_made(target.client, line, error),
+    }
+}
+
+// The answer of an update that the pass has refused: calls are left, so it lacks slots.
+fn not_made(client: u32, line: u32, error: PassError) -> Placed
+    requires calls { ¬ (error ≡ PassError.Spent) }
+    ensures answer { result ≡ record { client = client; line = line; at = None; reply = Reply.NoSlot } }
+    ensures cause { error ≡ PassError.NoSlot }
+{
+    match error {
+        PassError::NoSlot => refused(client, line, Reply::NoSlot),
+        PassError::Spent => unreachable!(),
     }
 }
 

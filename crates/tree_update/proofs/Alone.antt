@@ -3,7 +3,7 @@ use Rattle.std.proofs.Common.{ap, sym, ◌∙◌}
 use Rattle.index_words.specs.declared.layout.Layout.{Layout}
 use Rattle.table_steps.specs.Passes.{Pass, IsAlone, IsSamePass}
 use Rattle.tree_update.specs.declared.trying.Try.{Try}
-use Rattle.tree_update.specs.declared.trying.Try.TheVariants.{Done as Made, Busy, Moved, Pending}
+use Rattle.tree_update.specs.declared.trying.Try.TheVariants.{Done as Made}
 use Rattle.tree_update.specs.Trying.{UnlessDone, IsMade}
 
 -- a pass that is not alone is not so after its steps

@@ -17,7 +17,7 @@ use Rattle.table_steps.specs.Stamps.{outside_again, HasOpened}
 use Rattle.table_steps.proofs.ReadSections.{opened_extends, within_history}
 use Rattle.bundle_reads.specs.Reads.{HasRead}
 use Rattle.snapshot_read.proofs.Begins.{Owned, owned, entered_owned}
-use Rattle.tree_update.specs.Calls.{GoesOn, FixesNone, StaysOn, MakesChange, MovesNodes, LooksFor}
+use Rattle.tree_update.specs.Calls.{GoesOn, FixesNone, StaysOn, MakesChange, MovesNodes, LooksFor, HasNotLooked}
 use Rattle.update_try.specs.Outcomes.{KeepsAll}
 use Rattle.tree_update.specs.Settles.{KeepsAllElse, KeepsSlotCounts}
 
@@ -40,6 +40,9 @@ fixes_more u v w one two = record { looks = two.looks ∙ one.looks; found = two
 
 pub stays_more : (u v w : View) → StaysOn u v → StaysOn v w → StaysOn u w
 stays_more u v w one two = record { goes = goes_more u v w one.goes two.goes; fixes = fixes_more u v w one.fixes two.fixes }
+
+pub unlooked_more : (u v w : View) → HasNotLooked u v → HasNotLooked v w → HasNotLooked u w
+unlooked_more u v w one two = record { fixes = fixes_more u v w one.fixes two.fixes; waits = two.waits ∙ one.waits }
 
 made_seen : (us vs others : List Update) (x : Update) (more : Extends us vs) → (vs ++ others) ++ x ∷ [] ≡ (us ++ (more.0 ++ others)) ++ x ∷ []
 made_seen us vs others x more = ap (λ (xs : List Update). xs ++ x ∷ []) (ap (λ (xs : List Update). xs ++ others) more.1 ∙ append_assoc us more.0 others)
@@ -94,6 +97,9 @@ same_stays v w history free batch retired =
 
 pub stays_nothing : (v : View) → StaysOn v v
 stays_nothing v = same_stays v v refl refl refl refl
+
+pub unlooked_nothing : (v : View) → HasNotLooked v v
+unlooked_nothing v = record { fixes = (stays_nothing v).fixes; waits = refl }
 
 pub read_stays : (v w : View) → HasRead v w → StaysOn v w
 read_stays v w read =

@@ -1,5 +1,5 @@
 -- An update that a try has carried out, and what a snapshot shows of a key.
-use Rattle.std.proofs.Common.{◌≡◌, ◌↔◌, ◌⊎◌, ℕ, ◌+◌, ◌-◌, ◌<◌, ◌≤◌, List, [], ◌∷◌, ◌++◌, length, drop, Bool, true, false, arith, refl, ap, sym, ◌∙◌, subst, Option, Some, None, is_some, Ok, Err, IsErrOf, MatchBool, inl, inr}
+use Rattle.std.proofs.Common.{◌≡◌, ◌↔◌, ◌⊎◌, ℕ, ◌+◌, ◌-◌, ◌<◌, ◌≤◌, List, [], ◌∷◌, ◌++◌, length, drop, Bool, true, false, arith, refl, ap, sym, ◌∙◌, subst, Option, Some, None, is_some, Ok, Err, IsErrOf, inl, inr}
 use Rattle.std.proofs.lemmas.Bool.Decides.{nat_tests}
 use Rattle.std.proofs.lemmas.List.{length-append, take-append-drop, length_push}
 use Rattle.index_words.specs.declared.view.View.{View}
@@ -9,8 +9,6 @@ use Rattle.key_map.specs.declared.update.Update.{Update}
 use Rattle.key_map.specs.declared.update.Change.{Change}
 use Rattle.key_map.specs.declared.update.Change.TheVariants.{Put, Remove}
 use Rattle.key_map.specs.declared.pass.Done.{Done}
-use Rattle.key_map.specs.declared.pass.New.{New}
-use Rattle.key_map.specs.declared.pass.New.TheVariants.{Made, Kept}
 use Rattle.key_map.specs.declared.pass.PassError.{PassError}
 use Rattle.key_map.specs.declared.pass.PassError.TheVariants.{NoSlot, Spent}
 use Rattle.key_map.specs.History.{after}
@@ -21,10 +19,10 @@ use Rattle.core_events.specs.LoadMoves.{risen}
 use Rattle.core_updates.specs.Ready.{update_of}
 use Rattle.plan_laws.specs.Answers.{owned_nodes, owned_entries}
 use Rattle.snapshot_read.specs.Snapshots.{HasBegun}
-use Rattle.tree_update.specs.Calls.{GoesOn, FixesNone, StaysOn, MakesChange, MovesNodes, LooksFor, HasMade, Inserts, AnswersPutNew, AnswersRemoval, IsOutOfSlots, IsRefusal}
-use Rattle.tree_update.proofs.CallSteps.{fixes_more, made_more, looked_more}
+use Rattle.tree_update.specs.Calls.{GoesOn, FixesNone, StaysOn, MakesChange, MovesNodes, LooksFor, HasMade, IsOutOfSlots, IsRefusal}
+use Rattle.tree_update.proofs.CallSteps.{fixes_more, made_more}
 use Rattle.update_search.specs.declared.search.Aim.{Aim}
-use Rattle.update_search.specs.declared.search.Aim.TheVariants.{Grow, Replace, Remove as RemoveAim}
+use Rattle.update_search.specs.declared.search.Aim.TheVariants.{Grow}
 use Rattle.update_search.specs.Aims.{change_of, has_found, key_of}
 use Rattle.update_try.specs.Carried.{HasCarriedOut, MovesNodes as TryMovesNodes}
 
@@ -166,24 +164,15 @@ accepted_slots v is x = (λ err. absurd (no_error err), λ out. absurd (either o
     either (inl few) = omega (arith, few, is.1)
     either (inr few) = omega (arith, few, is.2)
 
--- a removal that was made is one that found its key
-pub removal_answers : (v w : View) (n line key : ℕ) (done : Done) → MakesChange v w n line key Remove done → AnswersRemoval v w n line key done
-removal_answers v w n line key done made =
-    subst (λ (b : Bool). MatchBool b (MakesChange v w n line key Remove done) (LooksFor v w key false done.at)) (sym made.nodes.0) made
-
--- an answer holds from an earlier view on
-pub removal_more : (u v w : View) (n line key : ℕ) (done : Done) → GoesOn u v → AnswersRemoval v w n line key done → AnswersRemoval u w n line key done
-removal_more u v w n line key done on = by_answer done.was
+-- the cause of an error is the same, whatever the call would have answered without it
+pub same_cause : (A : Type 0) {S T : Type 0} (e f : PassError) → IsErrOf {T = S} (Err e) f ↔ A → IsErrOf {T = T} (Err e) f ↔ A
+same_cause A {S = S} {T = T} e f is = (λ err. is.0 (ap (λ (x : PassError). Err x) (of err)), λ fact. ap (λ (x : PassError). Err x) (of (is.1 fact)))
   where
-    by_answer : (b : Bool) → MatchBool b (MakesChange v w n line key Remove done) (LooksFor v w key false done.at) → MatchBool b (MakesChange u w n line key Remove done) (LooksFor u w key false done.at)
-    by_answer true made = made_more u v w n line key Remove done on made
-    by_answer false absent = looked_more u v w key false done.at on absent
+    of : {U : Type 0} → IsErrOf {T = U} (Err e) f → e ≡ f
+    of err = cc
 
--- a put that was made of a key that was not there
-pub inserts : (v w : View) (n line key val : ℕ) (done : Done) → MakesChange v w n line key (Put val) done → done.was ≡ false → Inserts v w n line key val done.at
-inserts v w n line key val done made none =
-    subst (λ (b : Bool). MakesChange v w n line key (Put val) (record { at = done.at; was = b })) none made
-
-pub new_more : (u v w : View) (n line key val : ℕ) (answer : New) → GoesOn u v → AnswersPutNew v w n line key val answer → AnswersPutNew u w n line key val answer
-new_more u v w n line key val (Made at) on made = made_more u v w n line key (Put val) (record { at = at; was = false }) on made
-new_more u v w n line key val (Kept at) on found = looked_more u v w key true at on found
+pub no_cause : (A : Type 0) {S T : Type 0} (x : S) (y : T) (f : PassError) → IsErrOf (Ok x) f ↔ A → IsErrOf (Ok y) f ↔ A
+no_cause A x y f is = (λ err. absurd (none y err), λ fact. absurd (none x (is.1 fact)))
+  where
+    none : {U : Type 0} (z : U) → IsErrOf (Ok z) f → ⊥
+    none z err = cc

@@ -1,12 +1,11 @@
 -- How an update that a try has made ends, with a wait or without one.
-use Rattle.std.proofs.Common.{◌≡◌, ℕ, ◌+◌, ◌-◌, ◌<◌, List, length, true, arith, ap, sym, ◌∙◌, subst, refl, Option, Some, None}
+use Rattle.std.proofs.Common.{◌≡◌, ℕ, ◌+◌, ◌-◌, ◌<◌, List, length, arith, ap, sym, ◌∙◌, subst, Option, Some, None}
 use Rattle.index_words.specs.declared.view.View.{View}
 use Rattle.index_words.specs.declared.view.history.SeenHistory.{SeenHistory}
 use Rattle.index_words.specs.declared.view.slots.Looks.{Looks}
 use Rattle.index_words.specs.declared.view.slots.Slots.{Slots}
 use Rattle.key_map.specs.declared.pass.Done.{Done}
 use Rattle.key_map.specs.declared.update.Change.{Change}
-use Rattle.key_map.specs.declared.update.Change.TheVariants.{Put, Remove}
 use Rattle.key_map.specs.declared.update.Update.{Update}
 use Rattle.key_map.specs.History.{after}
 use Rattle.key_map.specs.Map.{map_has}
@@ -18,20 +17,13 @@ use Rattle.plan_laws.proofs.Parting.{look_parted}
 use Rattle.pass_slots.specs.Owned.{KeepsLooks, Shown}
 use Rattle.table_steps.specs.Passes.{AtRest}
 use Rattle.update_try.specs.declared.parting.Parted.{Parted}
-use Rattle.update_search.specs.Aims.{is_put}
 use Rattle.update_try.specs.Parting.{EndsAs, HasParted}
 use Rattle.tree_update.specs.Calls.{MakesChange, MovesNodes}
-use Rattle.tree_update.specs.Trying.{EndsBy}
 
 -- an update without a wait has ended
-at_once : (v : View) (n : ℕ) (parted : Option Parted) → parted ≡ None → EndsAs v n parted → AtRest v
+pub at_once : (v : View) (n : ℕ) (parted : Option Parted) → parted ≡ None → EndsAs v n parted → AtRest v
 at_once v n None is ends = ends
 at_once v n (Some parted) is ends = cc
-
-pub ends_by : (change : Change) (v : View) (n : ℕ) (parted : Option Parted)
-    → (is_put change ≡ true → parted ≡ None) → EndsAs v n parted → EndsBy change v n parted
-ends_by (Put val) v n parted none ends = at_once v n parted (none refl) ends
-ends_by Remove v n parted none ends = ends
 
 -- a look of the wait
 module _ (v w : View) (other word : ℕ) (is : w ≡ looked_waiting v other word) where

@@ -5,8 +5,7 @@ pub mod SettleLooks
 -- The calls that update the map.
 pub mod CallSteps
 pub mod CallsMade
--- The place that a removal answers.
-pub mod Places
+pub mod CallAnswers
 -- One try of an update.
 pub mod TryMade
 -- A pass that is alone on its table makes each put that it tries.

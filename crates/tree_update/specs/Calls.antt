@@ -16,6 +16,7 @@ use Rattle.core_updates.specs.Ready.{update_of}
 use Rattle.table_steps.specs.Passes.{Pass, Extends}
 use Rattle.table_steps.specs.Raises.{IsRaisedSince}
 use Rattle.table_steps.specs.Stamps.{IsFoundSince}
+use Rattle.update_search.specs.Aims.{is_put}
 use Rattle.update_search.specs.Outcomes.{HasRisen}
 
 -- the pass made no update: what it has seen goes on, its own updates, how many it may still make and how many slots it
@@ -103,6 +104,42 @@ IsPlaceOfRemoval p line key done w =
 abbrev pub IsPlaceOfNew : Pass → ℕ → ℕ → ℕ → New → View → Type 0
 IsPlaceOfNew p line key val (Made at) w = IsRaisedSince p (update_of p.number line key (Put val)) at w
 IsPlaceOfNew p line key val (Kept at) w = IsFoundSince p at w
+
+-- a call was answered by a change that it has made, at the place of its own raise; if it was to be made only if its key is
+-- not there, the key was not
+pub record AnswersMade (only_new : Bool) (p : Pass) (w : View) (line key : ℕ) (change : Change) (done : Done) : Type 0 where
+  pub made : MakesChange p.view w p.number line key change done
+  pub raise : IsRaisedSince p (update_of p.number line key change) done.at w
+  pub absent : only_new ≡ true → done.was ≡ false
+
+-- why a change is not made if its key is there, or if it is not
+abbrev pub IsNotMade : Bool → Change → Bool → Type 0
+IsNotMade only_new change true = only_new ≡ true
+IsNotMade only_new change false = change ≡ Remove
+
+-- a call was answered by a look, which has shown why its change is not made, at the number that was found in the stamp at
+-- a step of the call
+pub record AnswersLooked (only_new : Bool) (p : Pass) (w : View) (key : ℕ) (change : Change) (done : Done) : Type 0 where
+  pub looked : LooksFor p.view w key done.was done.at
+  pub found : IsFoundSince p done.at w
+  pub why : IsNotMade only_new change done.was
+
+-- either
+abbrev pub AnswersCall : Bool → Pass → View → ℕ → ℕ → Change → Done → Type 0
+AnswersCall only_new p w line key change done = AnswersMade only_new p w line key change done ⊎ AnswersLooked only_new p w key change done
+
+-- the same answer, as that of a put that is made only if its key is not there
+abbrev pub new_by : Done → New
+new_by done = if done.was then Kept done.at else Made done.at
+
+-- no load of the stamp has fixed a place, and the count of entries without a number has not risen
+pub record HasNotLooked (v w : View) : Type 0 where
+  pub fixes : FixesNone v w
+  pub waits : w.counts.waits ≡ v.counts.waits
+
+-- a put that is made whether or not its key is there needs no look
+abbrev pub PutsUnlooked : Bool → Change → View → View → Type 0
+PutsUnlooked only_new change v w = only_new ≡ false → is_put change ≡ true → HasNotLooked v w
 
 -- calls are left, but not the slots that an update may take: one node and four entries, free or not
 abbrev pub IsOutOfSlots : View → Type 0

@@ -1,9 +1,9 @@
 -- The answer of one try of an update.
-use Rattle.std.specs.Prelude.{◌≡◌, ℕ, ◌+◌, ◌<◌, ◌⊎◌, Bool, true, false, Option}
+use Rattle.std.specs.Prelude.{◌≡◌, ℕ, ◌+◌, ◌<◌, ◌⊎◌, Bool, true, not, if◌then◌else◌}
 use Rattle.index_words.specs.declared.view.View.{View}
 use Rattle.key_map.specs.declared.pass.Done.{Done}
 use Rattle.key_map.specs.declared.update.Change.{Change}
-use Rattle.key_map.specs.declared.update.Change.TheVariants.{Put, Remove}
+use Rattle.key_map.specs.declared.update.Change.TheVariants.{Remove}
 use Rattle.core_updates.specs.declared.plan.PlanSlots.{PlanSlots}
 use Rattle.core_updates.specs.PlanEvents.{HasSlots}
 use Rattle.plan_laws.specs.Fills.{AreApart}
@@ -12,17 +12,15 @@ use Rattle.tree_update.specs.declared.trying.Missed.TheVariants.{Absent, There, 
 use Rattle.tree_update.specs.declared.trying.Try.{Try}
 use Rattle.tree_update.specs.declared.trying.Try.TheVariants.{Done as Made, Busy, Moved, Pending}
 use Rattle.table_rule.specs.Homes.{IsLiveView}
-use Rattle.table_steps.specs.Passes.{AtRest, IsAlone}
+use Rattle.table_steps.specs.Passes.{IsAlone}
 use Rattle.table_steps.specs.Stamps.{outside_again}
 use Rattle.tree_update.specs.Calls.{LooksFor}
 use Rattle.update_try.specs.FreeSlots.{LacksFreeSlots}
-use Rattle.update_try.specs.declared.parting.Parted.{Parted}
 use Rattle.update_search.specs.declared.outcome.Failed.{Failed as Failure}
 use Rattle.update_search.specs.declared.search.Aim.{Aim}
 use Rattle.update_search.specs.Aims.{IsAim, has_found, key_of}
 use Rattle.update_search.specs.Ends.{IsMissing}
 use Rattle.update_search.specs.Outcomes.{IsCounted}
-use Rattle.update_try.specs.Parting.{EndsAs}
 
 -- calls are left, but not the free slots that an update may take
 abbrev pub IsOutOfFreeSlots : View → Type 0
@@ -33,11 +31,6 @@ pub record OffersSlots (v : View) (slots : PlanSlots) : Type 0 where
   pub free : HasSlots v slots
   pub apart : AreApart slots
   pub node : 0 < slots.node
-
--- a put has ended, and waits for nobody; a removal has ended, or has still to wait
-abbrev pub EndsBy : Change → View → ℕ → Option Parted → Type 0
-EndsBy (Put val) v n parted = AtRest v
-EndsBy Remove v n parted = EndsAs v n parted
 
 -- the try's search has ended so, in the section that the try has opened; some table that meets the rule has a seat with that view.
 -- After it the pass has left the section, and has done nothing else
@@ -74,14 +67,12 @@ IsMissed only_new key change v w Absent = (change ≡ Remove) × HasMissedKey ke
 IsMissed only_new key change v w There = (only_new ≡ true) × HasFoundKey key v w
 IsMissed only_new key change v w (Failed failed) = IsCounted failed v w × ¬ IsAlone w
 
--- why a removal is tried again: a try has failed, or its search has not found the key, and a snapshot after it has
-abbrev pub RemovesLater : ℕ → View → View → Type 0
-RemovesLater key v w = HasFailed v w ⊎ ((left : View) × (at : ℕ) × HasMissedKey key v left × LooksFor left w key true at)
-
--- why a put that is made only if its key is not there is tried again: a try has failed, or its search has found the key, and a
--- snapshot after it has not
-abbrev pub PutsNewLater : ℕ → View → View → Type 0
-PutsNewLater key v w = HasFailed v w ⊎ ((left : View) × (at : ℕ) × HasFoundKey key v left × LooksFor left w key false at)
+-- why a change is tried again: a try has failed, or its search has shown why the change is not made, and a snapshot after it
+-- has shown the contrary
+abbrev pub TriesLater : Bool → ℕ → Change → View → View → Type 0
+TriesLater only_new key change v w =
+    HasFailed v w
+    ⊎ ((left : View) × (at : ℕ) × (there : Bool) × IsMissed only_new key change v left (if there then There else Absent) × LooksFor left w key (not there) at)
 
 -- what holds if a try has made its update, by its answer
 abbrev pub IfDone : Try → (Done → Type 0) → Type 0

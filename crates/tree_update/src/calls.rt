@@ -3,15 +3,15 @@
 //! Each tries until a try succeeds. It waits only between the tries: outside of the section, with no lock held and
 //! nothing pending, so that no other pass waits for it meanwhile. A removal may also wait after its update, with two
 //! locks held, as `ending` says.
-ghost use Rattle.std.specs.Prelude.{◌≡◌, ◌↔◌, ◌<◌, ◌≤◌, None, is_some, IfOk, IfSome, IsErrOf, OnErr};
+ghost use Rattle.std.specs.Prelude.{◌≡◌, ◌↔◌, ℕ, ◌<◌, ◌≤◌, not, None, is_some, IfOk, IfSome, IsErrOf, OnErr};
 ghost use Rattle.key_map.specs.Map.{value_at};
 ghost use Rattle.table_steps.specs.Passes.{AtRest, IsSamePass};
 ghost use Rattle.table_steps.specs.Stamps.{IsFoundSince};
-ghost use Rattle.tree_update.specs.Calls.{StaysOn, GoesOn, MakesPut, LooksFor, AnswersPutNew, AnswersRemoval, IsPlaceOfPut, IsPlaceOfNew, IsPlaceOfRemoval, IsRefusal, IsOutOfSlots};
-ghost use Rattle.tree_update.specs.Trying.{OffersSlots, PutsNewLater, RemovesLater};
+ghost use Rattle.tree_update.specs.Calls.{GoesOn, MakesPut, LooksFor, AnswersCall, AnswersPutNew, AnswersRemoval, IsPlaceOfPut, IsPlaceOfNew, IsPlaceOfRemoval, IsRefusal, IsOutOfSlots, PutsUnlooked, new_by};
+ghost use Rattle.tree_update.specs.Trying.{OffersSlots, TriesLater};
 
 use crate::ending::end_removal;
-use crate::trying::{Missed, try_update};
+use crate::trying::{Missed, Wanted, try_update};
 use crate::waits::{pause, wait_for_slots};
 use core_updates::PlanSlots;
 use index_words::{Change, Pair};
@@ -63,12 +63,30 @@ fn look_for<R: Wait>(pass: &mut TablePass<'_>, rt: &R, key: u64) -> Done
     }
 }
 
-/// One try of a removal. If its search has not found the key, a snapshot shows whether it is there.
-fn try_removal<R: Wait>(
+/// Looks for a key that the search of a try has found, or has not, as `there` says. It answers only if it shows the
+/// same.
+fn look_again<R: Wait>(pass: &mut TablePass<'_>, rt: &R, key: u64, there: bool) -> Option<Done>
+    requires rest { AtRest pass.old.view }
+    ensures same { IsSamePass pass.old pass.new }
+    ensures rest { AtRest pass.new.view }
+    ensures found { IfSome result (λ done. IsFoundSince pass.old done.at pass.new.view) }
+    ensures looked { IfSome result (λ done. LooksFor pass.old.view pass.new.view key done.was done.at) }
+    ensures was { IfSome result (λ done. done.was ≡ there) }
+    ensures otherwise { result ≡ None → (at : ℕ) × LooksFor pass.old.view pass.new.view key (not there) at }
+{
+    let found = look_for(pass, rt, key);
+    if found.was == there {
+        return Some(found);
+    }
+    None
+}
+
+/// One try of an update. If its search has shown that the update is not to be made, a snapshot shows whether this is so:
+/// the key of a removal is not there, or that of a put is which is made only if it is not.
+fn try_once<R: Wait>(
     pass: &mut TablePass<'_>,
     rt: &R,
-    line: u32,
-    key: u64,
+    wanted: Wanted,
     slots: &PlanSlots,
 ) -> Option<Done>
     requires rest { AtRest pass.old.view }
@@ -76,122 +94,66 @@ fn try_removal<R: Wait>(
     requires slots { OffersSlots pass.old.view slots.now }
     ensures same { IsSamePass pass.old pass.new }
     ensures rest { AtRest pass.new.view }
-    ensures answered { IfSome result (AnswersRemoval pass.old.view pass.new.view pass.old.number line key) }
-    ensures place { IfSome result (λ done. IsPlaceOfRemoval pass.old line key done pass.new.view) }
-    ensures later { result ≡ None → RemovesLater key pass.old.view pass.new.view }
+    ensures answered { IfSome result (AnswersCall wanted.only_new pass.old pass.new.view wanted.line wanted.key wanted.change) }
+    ensures unlooked { PutsUnlooked wanted.only_new wanted.change pass.old.view pass.new.view }
+    ensures later { result ≡ None → TriesLater wanted.only_new wanted.key wanted.change pass.old.view pass.new.view }
     ensures goes { result ≡ None → GoesOn pass.old.view pass.new.view }
 {
-    match try_update(pass, line, key, Change::Remove, false, slots) {
+    match try_update(pass, wanted, slots) {
         Ok(carried) => {
             end_removal(pass, rt, carried.parted);
             Some(carried.done)
         }
-        Err(Missed::Absent) => {
-            let found = look_for(pass, rt, key);
-            if found.was {
-                return None;
-            }
-            Some(Done {
-                at: found.at,
-                was: false,
-            })
-        }
-        Err(Missed::There | Missed::Failed(_)) => None,
+        Err(Missed::Absent) => look_again(pass, rt, wanted.key, false),
+        Err(Missed::There) => look_again(pass, rt, wanted.key, true),
+        Err(Missed::Failed(_)) => None,
     }
 }
 
-/// One try of a put that is made only if the key is not there. If its search has found the key, a snapshot shows
-/// whether it is there.
-fn try_new<R: Wait>(
-    pass: &mut TablePass<'_>,
-    rt: &R,
-    line: u32,
-    key: u64,
-    val: u64,
-    slots: &PlanSlots,
-) -> Option<New>
-    requires rest { AtRest pass.old.view }
-    requires left { 0 < pass.old.view.history.left }
-    requires slots { OffersSlots pass.old.view slots.now }
-    ensures same { IsSamePass pass.old pass.new }
-    ensures rest { AtRest pass.new.view }
-    ensures answered { IfSome result (AnswersPutNew pass.old.view pass.new.view pass.old.number line key val) }
-    ensures place { IfSome result (λ answer. IsPlaceOfNew pass.old line key val answer pass.new.view) }
-    ensures later { result ≡ None → PutsNewLater key pass.old.view pass.new.view }
-    ensures goes { result ≡ None → GoesOn pass.old.view pass.new.view }
-{
-    match try_update(pass, line, key, Change::Put(val), true, slots) {
-        Ok(carried) => Some(New::Made {
-            at: carried.done.at,
-        }),
-        Err(Missed::There) => {
-            let found = look_for(pass, rt, key);
-            if found.was {
-                return Some(New::Kept { at: found.at });
-            }
-            None
-        }
-        Err(Missed::Absent | Missed::Failed(_)) => None,
-    }
-}
-
-/// Tries a put until it is made.
-fn make_put<R: Wait>(pass: &mut TablePass<'_>, rt: &R, line: u32, key: u64, val: u64) -> Done
+/// Tries an update until it is made, or until a snapshot shows that it is not to be made.
+fn try_until_answered<R: Wait>(pass: &mut TablePass<'_>, rt: &R, wanted: Wanted) -> Done
     requires rest { AtRest pass.old.view }
     requires left { 0 < pass.old.view.history.left }
     ensures same { IsSamePass pass.old pass.new }
     ensures rest { AtRest pass.new.view }
-    ensures made { MakesPut pass.old.view pass.new.view pass.old.number line key val result }
-    ensures place { IsPlaceOfPut pass.old line key val result pass.new.view }
-    ensures waits { pass.new.view.counts.waits ≡ pass.old.view.counts.waits }
+    ensures answered { AnswersCall wanted.only_new pass.old pass.new.view wanted.line wanted.key wanted.change result }
+    ensures unlooked { PutsUnlooked wanted.only_new wanted.change pass.old.view pass.new.view }
 {
     'tries: for _ in rt.forever() {
         let slots = wait_for_slots(pass, rt);
-        if let Ok(carried) = try_update(pass, line, key, Change::Put(val), false, &slots) {
-            return carried.done;
-        }
-        pause();
-    }
-    unreachable!()
-}
-
-/// Tries a put that is made only if the key is not there, until it is made, or until a snapshot shows that the key is
-/// there.
-fn make_new<R: Wait>(pass: &mut TablePass<'_>, rt: &R, line: u32, key: u64, val: u64) -> New
-    requires rest { AtRest pass.old.view }
-    requires left { 0 < pass.old.view.history.left }
-    ensures same { IsSamePass pass.old pass.new }
-    ensures rest { AtRest pass.new.view }
-    ensures answered { AnswersPutNew pass.old.view pass.new.view pass.old.number line key val result }
-    ensures place { IsPlaceOfNew pass.old line key val result pass.new.view }
-{
-    'tries: for _ in rt.forever() {
-        let slots = wait_for_slots(pass, rt);
-        if let Some(answer) = try_new(pass, rt, line, key, val, &slots) {
-            return answer;
-        }
-        pause();
-    }
-    unreachable!()
-}
-
-/// Tries a removal until it is made, or until a snapshot shows that the key is not there.
-fn make_removal<R: Wait>(pass: &mut TablePass<'_>, rt: &R, line: u32, key: u64) -> Done
-    requires rest { AtRest pass.old.view }
-    requires left { 0 < pass.old.view.history.left }
-    ensures same { IsSamePass pass.old pass.new }
-    ensures rest { AtRest pass.new.view }
-    ensures answered { AnswersRemoval pass.old.view pass.new.view pass.old.number line key result }
-    ensures place { IsPlaceOfRemoval pass.old line key result pass.new.view }
-{
-    'tries: for _ in rt.forever() {
-        let slots = wait_for_slots(pass, rt);
-        if let Some(done) = try_removal(pass, rt, line, key, &slots) {
+        if let Some(done) = try_once(pass, rt, wanted, &slots) {
             return done;
         }
         pause();
     }
     unreachable!()
+}
+
+/// Makes the update unless the pass can make none, or the update is not to be made.
+fn update<R: Wait>(pass: &mut TablePass<'_>, rt: &R, wanted: Wanted) -> Result<Done, PassError>
+    requires rest { AtRest pass.old.view }
+    ensures same { IsSamePass pass.old pass.new }
+    ensures rest { AtRest pass.new.view }
+    ensures answered { IfOk result (AnswersCall wanted.only_new pass.old pass.new.view wanted.line wanted.key wanted.change) }
+    ensures unlooked { PutsUnlooked wanted.only_new wanted.change pass.old.view pass.new.view }
+    ensures spent { IsErrOf result PassError.Spent ↔ (pass.old.view.history.left ≡ 0) }
+    ensures no_slot { IsErrOf result PassError.NoSlot ↔ IsOutOfSlots pass.old.view }
+    ensures unchanged { OnErr result (pass.new ≡ pass.old) }
+{
+    match refusal(pass) {
+        Some(error) => Err(error),
+        None => Ok(try_until_answered(pass, rt, wanted)),
+    }
+}
+
+/// The answer of a put that is made only if its key is not there, by whether the key was there.
+fn new_answer(done: Done) -> New
+    ensures { result ≡ new_by done }
+{
+    if done.was {
+        return New::Kept { at: done.at };
+    }
+    New::Made { at: done.at }
 }
 
 /// Puts the key with this value, for the request line `line`. It takes no memory. While other passes hold the locks
@@ -213,10 +175,13 @@ pub fn put<R: Wait>(
     ensures no_slot { IsErrOf result PassError.NoSlot ↔ IsOutOfSlots pass.old.view }
     ensures unchanged { OnErr result (pass.new ≡ pass.old) }
 {
-    match refusal(pass) {
-        Some(error) => Err(error),
-        None => Ok(make_put(pass, rt, line, key, val)),
-    }
+    let wanted = Wanted {
+        line,
+        key,
+        change: Change::Put(val),
+        only_new: false,
+    };
+    update(pass, rt, wanted)
 }
 
 /// Puts the key with this value if it is not there, for the request line `line`. If it is there, no update is made: the
@@ -237,9 +202,15 @@ pub fn put_new<R: Wait>(
     ensures no_slot { IsErrOf result PassError.NoSlot ↔ IsOutOfSlots pass.old.view }
     ensures unchanged { OnErr result (pass.new ≡ pass.old) }
 {
-    match refusal(pass) {
-        Some(error) => Err(error),
-        None => Ok(make_new(pass, rt, line, key, val)),
+    let wanted = Wanted {
+        line,
+        key,
+        change: Change::Put(val),
+        only_new: true,
+    };
+    match update(pass, rt, wanted) {
+        Ok(done) => Ok(new_answer(done)),
+        Err(error) => Err(error),
     }
 }
 
@@ -265,8 +236,11 @@ pub fn remove<R: Wait>(
     ensures no_slot { IsErrOf result PassError.NoSlot ↔ IsOutOfSlots pass.old.view }
     ensures unchanged { OnErr result (pass.new ≡ pass.old) }
 {
-    match refusal(pass) {
-        Some(error) => Err(error),
-        None => Ok(make_removal(pass, rt, line, key)),
-    }
+    let wanted = Wanted {
+        line,
+        key,
+        change: Change::Remove,
+        only_new: false,
+    };
+    update(pass, rt, wanted)
 }

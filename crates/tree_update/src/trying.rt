@@ -5,10 +5,10 @@ ghost use Rattle.table_steps.specs.Passes.{AtRest, IsAlone, IsSamePass};
 ghost use Rattle.table_steps.specs.Raises.{IsRaisedSince};
 ghost use Rattle.table_steps.specs.Stamps.{outside_again};
 ghost use Rattle.tree_update.specs.Calls.{StaysOn, HasMade, MakesPut, IsPlaceOfPut};
-ghost use Rattle.update_search.specs.Aims.{has_found};
+ghost use Rattle.update_search.specs.Aims.{has_found, is_put};
 ghost use Rattle.update_search.specs.Outcomes.{HasRisen};
 ghost use Rattle.update_try.specs.Parting.{EndsAs};
-ghost use Rattle.tree_update.specs.Trying.{EndsBy, IsMissed, IsOutOfFreeSlots, OffersSlots, IfDone, IfBusy, IfMoved, IfPending, UnlessDone, IsMade};
+ghost use Rattle.tree_update.specs.Trying.{IsMissed, IsOutOfFreeSlots, OffersSlots, IfDone, IfBusy, IfMoved, IfPending, UnlessDone, IsMade};
 ghost use Rattle.bundle_reads.specs.Links.{InsideAt};
 
 use core_updates::PlanSlots;
@@ -17,6 +17,16 @@ use key_map::{Done, PassError};
 use table_steps::TablePass;
 use update_search::{Aim, Failed, begin_search, find_aim};
 use update_try::{Carried, carry_out, plan_slots};
+
+/// The update that a call is to make.
+#[derive(Clone, Copy)]
+pub(crate) struct Wanted {
+    pub line: u32,
+    pub key: u64,
+    pub change: Change,
+    /// Whether it is made only if the key is not there.
+    pub only_new: bool,
+}
 
 /// Why one try of an update was not made. The try has changed nothing.
 #[derive(Clone, Copy, Debug, PartialEq, Eq)]
@@ -68,14 +78,10 @@ pub(crate) fn give_up(pass: &mut TablePass<'_>, at: u64)
 }
 
 /// One try of an update, in a section of its own, with these slots. The enter takes no free slot away, so they are
-/// still free where the plan is carried out. With `only_new` the update is made only if its key is not there. The try
-/// never waits: a removal that has to wait is not at rest after it.
+/// still free where the plan is carried out. The try never waits: a removal that has to wait is not at rest after it.
 pub(crate) fn try_update(
     pass: &mut TablePass<'_>,
-    line: u32,
-    key: u64,
-    change: Change,
-    only_new: bool,
+    wanted: Wanted,
     slots: &PlanSlots,
 ) -> Result<Carried, Missed>
     requires rest { AtRest pass.old.view }
@@ -83,25 +89,26 @@ pub(crate) fn try_update(
     requires slots { OffersSlots pass.old.view slots.now }
     ensures same { IsSamePass pass.old pass.new }
     ensures rest { IfErr result (λ missed. AtRest pass.new.view) }
-    ensures ends { IfOk result (λ carried. EndsBy change pass.new.view pass.new.number carried.parted) }
-    ensures made { IfOk result (λ carried. HasMade pass.old.view pass.new.view pass.old.number line key change carried.done) }
-    ensures raise { IfOk result (λ carried. IsRaisedSince pass.old (update_of pass.old.number line key change) carried.done.at pass.new.view) }
-    ensures absent { IfOk result (λ carried. only_new ≡ true → carried.done.was ≡ false) }
-    ensures missed { IfErr result (IsMissed only_new key change pass.old.view pass.new.view) }
+    ensures ends { IfOk result (λ carried. EndsAs pass.new.view pass.new.number carried.parted) }
+    ensures put { IfOk result (λ carried. is_put wanted.change ≡ true → carried.parted ≡ None) }
+    ensures made { IfOk result (λ carried. HasMade pass.old.view pass.new.view pass.old.number wanted.line wanted.key wanted.change carried.done) }
+    ensures raise { IfOk result (λ carried. IsRaisedSince pass.old (update_of pass.old.number wanted.line wanted.key wanted.change) carried.done.at pass.new.view) }
+    ensures absent { IfOk result (λ carried. wanted.only_new ≡ true → carried.done.was ≡ false) }
+    ensures missed { IfErr result (IsMissed wanted.only_new wanted.key wanted.change pass.old.view pass.new.view) }
     ensures stays { IfErr result (λ missed. StaysOn pass.old.view pass.new.view) }
     ensures waits { pass.new.view.counts.waits ≡ pass.old.view.counts.waits }
 {
     let at = begin_search(pass);
     pass.facts();
     pass.number_fact();
-    match find_aim(pass, key, change) {
+    match find_aim(pass, wanted.key, wanted.change) {
         Ok(Some(aim)) => {
-            if is_kept_out(only_new, &aim) {
+            if is_kept_out(wanted.only_new, &aim) {
                 pass.facts();
                 give_up(pass, at);
                 return Err(Missed::There);
             }
-            match carry_out(pass, at, line, &aim, slots) {
+            match carry_out(pass, at, wanted.line, &aim, slots) {
                 Ok(carried) => Ok(carried),
                 Err(failed) => Err(Missed::Failed(failed)),
             }
@@ -134,7 +141,13 @@ fn try_with(pass: &mut TablePass<'_>, line: u32, key: u64, val: u64, slots: &Pla
     ensures alone { UnlessDone result (¬ IsAlone pass.new.view) }
     ensures kept { UnlessDone result (StaysOn pass.old.view pass.new.view) }
 {
-    match try_update(pass, line, key, Change::Put(val), false, slots) {
+    let wanted = Wanted {
+        line,
+        key,
+        change: Change::Put(val),
+        only_new: false,
+    };
+    match try_update(pass, wanted, slots) {
         Ok(carried) => Try::Done(carried.done),
         Err(Missed::Failed(Failed::Busy)) => Try::Busy,
         Err(Missed::Failed(Failed::Moved)) => Try::Moved,

@@ -2,7 +2,7 @@ use Rattle.std.proofs.Common.{◌∙◌, ap}
 use Rattle.index_words.specs.declared.view.View.{View}
 use Rattle.tree_update.proofs.CallSteps.{goes_more, stays_more, read_stays, left_stays}
 use Rattle.tree_update.proofs.CallsMade.{begun_goes, looked_found}
-use Rattle.tree_update.proofs.Places.{found_here}
+use Rattle.tree_update.proofs.CallAnswers.{found_here}
 use Rattle.tree_update.proofs.calls.look_for.Goals as goal
 
 pub returns-clause-looked : goal.returns-clause-looked

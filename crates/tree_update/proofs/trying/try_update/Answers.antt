@@ -1,4 +1,4 @@
-use Rattle.std.proofs.Common.{◌≡◌, ◌∙◌, ◌&&◌, ℕ, Bool, true, false, arith, refl, ap, sym, subst, Option, Some, IfSome}
+use Rattle.std.proofs.Common.{◌≡◌, ◌∙◌, ◌&&◌, ℕ, Bool, true, false, arith, refl, ap, sym, subst, Option, None, Some, IfSome}
 use Rattle.bundle_reads.proofs.ReadMoves.{same_more}
 use Rattle.core_updates.specs.Ready.{update_of}
 use Rattle.index_words.specs.declared.view.history.Counts.{Counts}
@@ -8,12 +8,11 @@ use Rattle.table_steps.specs.Raises.{IsRaisedSince}
 use Rattle.update_search.specs.declared.search.Aim.{Aim}
 use Rattle.index_words.specs.declared.view.View.{View}
 use Rattle.update_search.specs.Ends.{IsMissing}
-use Rattle.update_search.specs.Aims.{IsAim, IsAimOf, change_of, has_found, key_of}
-use Rattle.tree_update.specs.Trying.{EndsBy, FindsKey}
+use Rattle.update_search.specs.Aims.{IsAim, IsAimOf, has_found, is_put, key_of}
+use Rattle.tree_update.specs.Trying.{FindsKey}
 use Rattle.tree_update.proofs.Alone.{others_stay}
 use Rattle.tree_update.proofs.CallSteps.{kept_stays, search_stays, stays_more}
 use Rattle.tree_update.proofs.CallsMade.{made_as, has_made_more}
-use Rattle.tree_update.proofs.Ends.{ends_by}
 use Rattle.tree_update.proofs.TryMade.{counted_still, has_searched, offers_still, opened_counted, searched_inside, searched_waits, try_counted}
 use Rattle.tree_update.proofs.trying.try_update.Goals as goal
 
@@ -56,14 +55,11 @@ carry_out-requires-clause-left c =
     omega (arith, c.requires.left, stays.goes.left)
 
 -- the update is made
-pub returns-in-Ok-clause-ends : goal.returns-in-Ok-clause-ends
-returns-in-Ok-clause-ends c =
-    let q = c.carry_out.new.pass in
-    let aim = c.in-Ok-Some.aim in
-    let of : IsAimOf c.args.key c.args.change c.in-Ok-Some.aim
-    = aim_of c.args.key c.args.change c.in-Ok-Some.field-0 c.in-Ok-Some.aim c.in-Ok-Some.field-0-is c.in-Ok-Some.ensures.of in
-    subst (λ (d : Change). EndsBy d q.view q.number c.in-Ok.carried.parted) of.change_is
-    (ends_by (change_of aim) q.view q.number c.in-Ok.carried.parted c.in-Ok.ensures.put c.in-Ok.ensures.ends)
+pub returns-in-Ok-clause-put : goal.returns-in-Ok-clause-put
+returns-in-Ok-clause-put c =
+    let of : IsAimOf c.args.wanted.key c.args.wanted.change c.in-Ok-Some.aim
+    = aim_of c.args.wanted.key c.args.wanted.change c.in-Ok-Some.field-0 c.in-Ok-Some.aim c.in-Ok-Some.field-0-is c.in-Ok-Some.ensures.of in
+    subst (λ (d : Change). is_put d ≡ true → c.in-Ok.carried.parted ≡ None) of.change_is c.in-Ok.ensures.put
 
 pub returns-in-Ok-clause-made : goal.returns-in-Ok-clause-made
 returns-in-Ok-clause-made c =
@@ -72,11 +68,11 @@ returns-in-Ok-clause-made c =
     let x = c.find_aim.new.pass in
     let w = c.carry_out.new.pass.view in
     let stays = search_stays c.args.pass.now b x.view c.begin_search-at.result c.begin_search-at.ensures.opened c.in-Ok-Some.ensures.keeps.places.keeps in
-    let of : IsAimOf c.args.key c.args.change c.in-Ok-Some.aim
-    = aim_of c.args.key c.args.change c.in-Ok-Some.field-0 c.in-Ok-Some.aim c.in-Ok-Some.field-0-is c.in-Ok-Some.ensures.of in
+    let of : IsAimOf c.args.wanted.key c.args.wanted.change c.in-Ok-Some.aim
+    = aim_of c.args.wanted.key c.args.wanted.change c.in-Ok-Some.field-0 c.in-Ok-Some.aim c.in-Ok-Some.field-0-is c.in-Ok-Some.ensures.of in
     let number = c.find_aim.ensures.same.number ∙ c.begin_search-at.ensures.same.number in
-    has_made_more v x.view w c.args.pass.now.number c.args.line c.args.key c.args.change c.in-Ok.carried.done stays
-    (made_as x.view w x.number c.args.pass.now.number c.args.line c.args.key c.args.change c.in-Ok-Some.aim c.in-Ok.carried.done number of.key_is of.change_is
+    has_made_more v x.view w c.args.pass.now.number c.args.wanted.line c.args.wanted.key c.args.wanted.change c.in-Ok.carried.done stays
+    (made_as x.view w x.number c.args.pass.now.number c.args.wanted.line c.args.wanted.key c.args.wanted.change c.in-Ok-Some.aim c.in-Ok.carried.done number of.key_is of.change_is
     c.in-Ok.ensures.done c.in-Ok.ensures.was)
 
 pub returns-in-Ok-clause-raise : goal.returns-in-Ok-clause-raise
@@ -86,21 +82,21 @@ returns-in-Ok-clause-raise c =
     let x = c.find_aim.new.pass in
     let w = c.carry_out.new.pass.view in
     let aim = c.in-Ok-Some.aim in
-    let of : IsAimOf c.args.key c.args.change c.in-Ok-Some.aim
-    = aim_of c.args.key c.args.change c.in-Ok-Some.field-0 c.in-Ok-Some.aim c.in-Ok-Some.field-0-is c.in-Ok-Some.ensures.of in
+    let of : IsAimOf c.args.wanted.key c.args.wanted.change c.in-Ok-Some.aim
+    = aim_of c.args.wanted.key c.args.wanted.change c.in-Ok-Some.field-0 c.in-Ok-Some.aim c.in-Ok-Some.field-0-is c.in-Ok-Some.ensures.of in
     let at = c.in-Ok.carried.done.at in
     let stays = search_stays p b.view x.view c.begin_search-at.result c.begin_search-at.ensures.opened c.in-Ok-Some.ensures.keeps.places.keeps in
     let same = same_more p b x c.begin_search-at.ensures.same c.find_aim.ensures.same in
-    let raised : IsRaisedSince x (update_of p.number c.args.line c.args.key c.args.change) at w
-    = subst (λ (n : ℕ). IsRaisedSince x (update_of n c.args.line c.args.key c.args.change) at w) same.number
-    (subst (λ (k : ℕ). IsRaisedSince x (update_of x.number c.args.line k c.args.change) at w) of.key_is
-    (subst (λ (d : Change). IsRaisedSince x (update_of x.number c.args.line (key_of aim) d) at w) of.change_is c.in-Ok.ensures.raise)) in
-    raised_later p x (update_of p.number c.args.line c.args.key c.args.change) at w same stays.goes.mine raised
+    let raised : IsRaisedSince x (update_of p.number c.args.wanted.line c.args.wanted.key c.args.wanted.change) at w
+    = subst (λ (n : ℕ). IsRaisedSince x (update_of n c.args.wanted.line c.args.wanted.key c.args.wanted.change) at w) same.number
+    (subst (λ (k : ℕ). IsRaisedSince x (update_of x.number c.args.wanted.line k c.args.wanted.change) at w) of.key_is
+    (subst (λ (d : Change). IsRaisedSince x (update_of x.number c.args.wanted.line (key_of aim) d) at w) of.change_is c.in-Ok.ensures.raise)) in
+    raised_later p x (update_of p.number c.args.wanted.line c.args.wanted.key c.args.wanted.change) at w same stays.goes.mine raised
 
 pub returns-in-Ok-clause-absent : goal.returns-in-Ok-clause-absent
 returns-in-Ok-clause-absent c = λ only.
     let had = has_found c.in-Ok-Some.aim in
-    let out : (c.args.only_new && had) ≡ false = sym c.is_kept_out.ensures ∙ c.if-is_kept_out.false in
+    let out : (c.args.wanted.only_new && had) ≡ false = sym c.is_kept_out.ensures ∙ c.if-is_kept_out.false in
     c.in-Ok.ensures.was ∙ subst (λ (b : Bool). (b && had) ≡ false) only out
 
 pub returns-in-Ok-clause-waits : goal.returns-in-Ok-clause-waits
@@ -144,11 +140,11 @@ returns-then-is_kept_out-clause-missed c =
     let x = c.find_aim.new.pass.view in
     let aim = c.in-Ok-Some.aim in
     let both = sym c.is_kept_out.ensures ∙ c.if-is_kept_out.true in
-    let of : IsAimOf c.args.key c.args.change aim = aim_of c.args.key c.args.change c.in-Ok-Some.field-0 aim c.in-Ok-Some.field-0-is c.in-Ok-Some.ensures.of in
+    let of : IsAimOf c.args.wanted.key c.args.wanted.change aim = aim_of c.args.wanted.key c.args.wanted.change c.in-Ok-Some.field-0 aim c.in-Ok-Some.field-0-is c.in-Ok-Some.ensures.of in
     let is : IsAim x aim = subst (λ (o : Option Aim). IfSome o (IsAim x)) c.in-Ok-Some.field-0-is c.in-Ok-Some.ensures.aim in (
-      first_true c.args.only_new (has_found aim) both,
-      has_searched (FindsKey c.args.key) c.args.pass.now c.begin_search-at.new.pass.view x c.give_up.new.pass.view c.begin_search-at.result c.begin_search-at.ensures.opened
-          c.in-Ok-Some.ensures.keeps.places c.facts-then-is_kept_out.ensures (record { aim = aim; is = is; key_is = of.key_is; found = second_true c.args.only_new (has_found aim) both })
+      first_true c.args.wanted.only_new (has_found aim) both,
+      has_searched (FindsKey c.args.wanted.key) c.args.pass.now c.begin_search-at.new.pass.view x c.give_up.new.pass.view c.begin_search-at.result c.begin_search-at.ensures.opened
+          c.in-Ok-Some.ensures.keeps.places c.facts-then-is_kept_out.ensures (record { aim = aim; is = is; key_is = of.key_is; found = second_true c.args.wanted.only_new (has_found aim) both })
           c.give_up.ensures.left,
     )
 
@@ -170,7 +166,7 @@ pub returns-in-Ok-None-clause-missed : goal.returns-in-Ok-None-clause-missed
 returns-in-Ok-None-clause-missed c =
     let x = c.find_aim.new.pass.view in (
       c.in-Ok-None.ensures.none c.in-Ok-None.field-0-is,
-      has_searched (λ (at : View). IsMissing at c.args.key) c.args.pass.now c.begin_search-at.new.pass.view x c.give_up-in-Ok-None.new.pass.view c.begin_search-at.result
+      has_searched (λ (at : View). IsMissing at c.args.wanted.key) c.args.pass.now c.begin_search-at.new.pass.view x c.give_up-in-Ok-None.new.pass.view c.begin_search-at.result
           c.begin_search-at.ensures.opened c.in-Ok-None.ensures.keeps.places c.facts-in-Ok-None.ensures (c.in-Ok-None.ensures.missing c.in-Ok-None.field-0-is) c.give_up-in-Ok-None.ensures.left,
     )
 
