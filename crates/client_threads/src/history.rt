@@ -37,7 +37,11 @@ pub fn history_of<G: Gate + Sync, R: Runner<G>, Rt: Threads + Wait + Sync>(
     ensures ran { IfOk result (λ updates. RanSession served.now.dir.now (named served.now.slots) served.now.session.now.clients updates.items (R.replied runner.new)) }
     ensures runs { OnOk result (R.runs runner.new ≡ one_more (R.runs runner.old)) }
 {
-    let (index, keys) = open_index(alloc, served.slots.named(), served.session.clients.as_slice())?;
+    let (index, keys) = open_index(
+        alloc,
+        served.slots.named(),
+        served.session.clients.as_slice(),
+    )?;
     history_over(rt, alloc, index, keys, served, runner)
 }
 

@@ -71,5 +71,7 @@ fn run_clients<K: Sink, G: Gate + Sync, R: Runner<G>, Rt: Threads + Wait + Sync>
     let updates = history_of(rt, alloc, served, runner)?;
     let records = served.session.records.as_slice();
     let clients = served.session.clients.len() as u32;
-    write_run::<K, G, R, Rt>(rt, alloc, sink, served.dir, records, clients, runner, &updates)
+    write_run::<K, G, R, Rt>(
+        rt, alloc, sink, served.dir, records, clients, runner, &updates,
+    )
 }
