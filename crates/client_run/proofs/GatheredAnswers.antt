@@ -1,8 +1,7 @@
 -- One answer, if the pass has gathered entries before it.
-use Rattle.std.proofs.Common.{◌≡◌, ℕ, ◌+◌, ◌<◌, ◌≤◌, ◌⊎◌, List, Option, Some, None, Err, IsErrOf, ◌↔◌, inl, inr, length, refl, sym, ap, ◌∙◌, subst, arith}
+use Rattle.std.proofs.Common.{◌≡◌, ℕ, ◌+◌, ◌<◌, ◌≤◌, List, Option, Some, None, Err, IsErrOf, ◌↔◌, inl, inr, length, refl, sym, ap, ◌∙◌, subst, arith}
 use Rattle.std.specs.List.{slice_get, count_by}
 use Rattle.std.proofs.lemmas.Bool.{cases_lt}
-use Rattle.std.proofs.lemmas.List.{length-append}
 use Rattle.key_map.specs.declared.pass.PassError.{PassError}
 use Rattle.key_map.specs.declared.pass.PassError.TheVariants.{NoSlot, Spent}
 use Rattle.key_map.specs.declared.update.Update.{Update}

@@ -13,12 +13,11 @@ ghost use Rattle.request_lines.specs.InputParts.{most_clients};
 
 use crate::node_slots::NodeSlots;
 use crate::opening::open_index;
-use crate::run_input::RunInput;
+use crate::run_input::{RunInput, Served};
 use crate::runner::Runner;
 use client_run::Gate;
 use key_map::Update;
-use key_names::{Directory, NoMemory};
-use request_lines::Session;
+use key_names::NoMemory;
 use shared_index::{PassKey, SharedIndex};
 use std::alloc::Global;
 use std::sync::Wait;
@@ -30,19 +29,20 @@ use std::thread::Threads;
 pub fn history_of<G: Gate + Sync, R: Runner<G>, Rt: Threads + Wait + Sync>(
     rt: &Rt,
     alloc: Global,
-    slots: NodeSlots,
-    session: &Session,
-    dir: &Directory,
-    gate: &G,
+    served: &Served<'_, G>,
     runner: &mut R,
 ) -> Result<Vec<Update>, NoMemory>
-    requires can { CanServe dir.now session.now }
-    requires slots { IsNamable (named slots) }
-    ensures ran { IfOk result (λ updates. RanSession dir.now (named slots) session.now.clients updates.items (R.replied runner.new)) }
+    requires can { CanServe served.now.dir.now served.now.session.now }
+    requires slots { IsNamable (named served.now.slots) }
+    ensures ran { IfOk result (λ updates. RanSession served.now.dir.now (named served.now.slots) served.now.session.now.clients updates.items (R.replied runner.new)) }
     ensures runs { OnOk result (R.runs runner.new ≡ one_more (R.runs runner.old)) }
 {
-    let (index, keys) = open_index(alloc, slots.named(), session.clients.as_slice())?;
-    history_over(rt, alloc, slots, index, keys, session, dir, gate, runner)
+    let (index, keys) = open_index(
+        alloc,
+        served.slots.named(),
+        served.session.clients.as_slice(),
+    )?;
+    history_over(rt, alloc, index, keys, served, runner)
 }
 
 /// The same over an index that is open: these are all its keys, one for each client in order, with the slots that are
@@ -50,28 +50,25 @@ pub fn history_of<G: Gate + Sync, R: Runner<G>, Rt: Threads + Wait + Sync>(
 pub fn history_over<G: Gate + Sync, R: Runner<G>, Rt: Threads + Wait + Sync>(
     rt: &Rt,
     alloc: Global,
-    slots: NodeSlots,
     index: SharedIndex,
     keys: Vec<PassKey>,
-    session: &Session,
-    dir: &Directory,
-    gate: &G,
+    served: &Served<'_, G>,
     runner: &mut R,
 ) -> Result<Vec<Update>, NoMemory>
-    requires can { CanServe dir.now session.now }
-    requires slots { IsNamable (named slots) }
+    requires can { CanServe served.now.dir.now served.now.session.now }
+    requires slots { IsNamable (named served.now.slots) }
     requires all { AreAllKeys index keys.items }
-    requires fresh { AreFresh 0 (sizes_of (named slots) session.now.clients) keys.items }
-    ensures ran { IfOk result (λ updates. RanSession dir.now (named slots) session.now.clients updates.items (R.replied runner.new)) }
+    requires fresh { AreFresh 0 (sizes_of (named served.now.slots) served.now.session.now.clients) keys.items }
+    ensures ran { IfOk result (λ updates. RanSession served.now.dir.now (named served.now.slots) served.now.session.now.clients updates.items (R.replied runner.new)) }
     ensures runs { OnOk result (R.runs runner.new ≡ one_more (R.runs runner.old)) }
 {
     let input = RunInput {
         index: &index,
-        session,
-        dir,
-        gate,
+        session: served.session,
+        dir: served.dir,
+        gate: served.gate,
     };
-    let keys = run_keys(rt, alloc, slots, keys, &input, runner)?;
+    let keys = run_keys(rt, alloc, served.slots, keys, &input, runner)?;
     match index.finish(alloc, keys) {
         Ok(updates) => Ok(updates),
         Err(_) => Err(NoMemory),

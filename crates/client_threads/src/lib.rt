@@ -19,7 +19,7 @@ pub use counting::summary_of;
 pub use history::{history_of, history_over};
 pub use node_slots::NodeSlots;
 pub use opening::{open_index, open_sized};
-pub use run_input::RunInput;
+pub use run_input::{RunInput, Served};
 pub use runner::Runner;
 pub use slots::slots_suffice;
 pub use threaded::Threaded;

@@ -29,7 +29,8 @@ use std::thread::Threads;
 ///
 /// ```
 /// let mut runner = Threaded::new();
-/// let updates = history_of(&rt, alloc, NodeSlots::AsAsked, &session, &dir, &OpenGate, &mut runner)?;
+/// let served = Served { session: &session, dir: &dir, slots: NodeSlots::AsAsked, gate: &OpenGate };
+/// let updates = history_of(&rt, alloc, &served, &mut runner)?;
 /// // the first client's, one for each of its request lines
 /// let replies = runner.replies(0);
 /// ```

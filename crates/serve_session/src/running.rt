@@ -10,8 +10,7 @@ ghost use Rattle.client_threads.specs.Sizes.{CanServe};
 
 use crate::writing::{write_last, write_run};
 use client_run::Gate;
-use client_threads::{NodeSlots, Runner, history_of};
-use key_names::Directory;
+use client_threads::{NodeSlots, Runner, Served, history_of};
 use outside_io::Sink;
 use request_lines::Session;
 use run_text::Stop;
@@ -44,30 +43,35 @@ pub(crate) fn run_session<K: Sink, G: Gate + Sync, R: Runner<G>, Rt: Threads + W
     if session.clients.is_empty() {
         return write_last(alloc, sink, 0);
     }
-    run_clients(rt, alloc, slots, &session, &dir, sink, gate, runner)
+    let served = Served {
+        session: &session,
+        dir: &dir,
+        slots,
+        gate,
+    };
+    run_clients(rt, alloc, &served, sink, runner)
 }
 
 // Runs the clients and writes the text.
 fn run_clients<K: Sink, G: Gate + Sync, R: Runner<G>, Rt: Threads + Wait + Sync>(
     rt: &Rt,
     alloc: Global,
-    slots: NodeSlots,
-    session: &Session,
-    dir: &Directory,
+    served: &Served<'_, G>,
     sink: &mut K,
-    gate: &G,
     runner: &mut R,
 ) -> Result<(), Stop>
-    requires slots { IsNamable (named slots) }
-    requires can { CanServe dir.now session.now }
-    ensures wrote { OnOk result (HoldsOfRun (named slots) dir.now session.now (TookBy K.taken sink.old sink.new R.runs R.replied runner.old runner.new)) }
-    ensures start { IsErrOf result Stop.Fault → HoldsOfRun (named slots) dir.now session.now (TookStart K.taken sink.old sink.new) }
-    ensures no_memory { IsErrOf result Stop.NoMemory → (sink.new ≡ sink.old) ⊎ HoldsOfRun (named slots) dir.now session.now (TookStart K.taken sink.old sink.new) }
+    requires slots { IsNamable (named served.now.slots) }
+    requires can { CanServe served.now.dir.now served.now.session.now }
+    ensures wrote { OnOk result (HoldsOfRun (named served.now.slots) served.now.dir.now served.now.session.now (TookBy K.taken sink.old sink.new R.runs R.replied runner.old runner.new)) }
+    ensures start { IsErrOf result Stop.Fault → HoldsOfRun (named served.now.slots) served.now.dir.now served.now.session.now (TookStart K.taken sink.old sink.new) }
+    ensures no_memory { IsErrOf result Stop.NoMemory → (sink.new ≡ sink.old) ⊎ HoldsOfRun (named served.now.slots) served.now.dir.now served.now.session.now (TookStart K.taken sink.old sink.new) }
     ensures fault { IsErrOf result Stop.Fault → K.faults sink.new ≡ one_more (K.faults sink.old) }
     ensures quiet { ¬ (IsErrOf result Stop.Fault) → K.faults sink.new ≡ K.faults sink.old }
 {
-    let updates = history_of(rt, alloc, slots, session, dir, gate, runner)?;
-    let records = session.records.as_slice();
-    let clients = session.clients.len() as u32;
-    write_run::<K, G, R, Rt>(rt, alloc, sink, dir, records, clients, runner, &updates)
+    let updates = history_of(rt, alloc, served, runner)?;
+    let records = served.session.records.as_slice();
+    let clients = served.session.clients.len() as u32;
+    write_run::<K, G, R, Rt>(
+        rt, alloc, sink, served.dir, records, clients, runner, &updates,
+    )
 }

@@ -14,7 +14,7 @@ use crate::Status;
 use crate::summary::summary_line;
 use bucket_terms::Summary;
 use client_run::Gate;
-use client_threads::{NodeSlots, Runner, history_over, open_sized, summary_of};
+use client_threads::{NodeSlots, Runner, Served, history_over, open_sized, summary_of};
 use key_map::PassSize;
 use key_names::NoMemory;
 use outside_io::{Sink, write_all};
@@ -155,8 +155,13 @@ fn run_summed<G: Gate + Sync, R: Runner<G>, Rt: Threads + Wait + Sync>(
         keys,
     } = made;
     let dir = session.take_directory();
-    let slots = NodeSlots::AsAsked;
-    let updates = history_over(rt, alloc, slots, index, keys, &session, &dir, gate, runner)?;
+    let served = Served {
+        session: &session,
+        dir: &dir,
+        slots: NodeSlots::AsAsked,
+        gate,
+    };
+    let updates = history_over(rt, alloc, index, keys, &served, runner)?;
     // The summary is the same in every schedule.
     sample_laws::sample_session();
     summary_of::<G, R>(alloc, session.clients.len() as u32, runner, &updates)

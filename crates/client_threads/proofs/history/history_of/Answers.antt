@@ -13,4 +13,4 @@ fresh_keys asked given clients cs keys same_slots same_clients are =
 
 pub history_over-requires-clause-fresh : goal.history_over-requires-clause-fresh
 history_over-requires-clause-fresh g c κs within =
-    fresh_keys (named c.args.slots) c.named.result c.args.session.now.clients c.as_slice.result.now c.in_ok-index.keys.items c.named.ensures c.as_slice.ensures c.in_ok-index.ensures.fresh
+    fresh_keys (named c.args.served.now.slots) c.named.result c.args.served.now.session.now.clients c.as_slice.result.now c.in_ok-index.keys.items c.named.ensures c.as_slice.ensures c.in_ok-index.ensures.fresh

@@ -13,36 +13,36 @@ use Rattle.client_threads.proofs.history.history_over.Goals as goal
 
 pub run_keys-requires-clause-can : goal.run_keys-requires-clause-can
 run_keys-requires-clause-can g c κs within =
-    can_run c.args.dir.now (named c.args.slots) c.args.session.now c.args.index c.args.keys.items c.requires.can c.requires.all
+    can_run c.args.served.now.dir.now (named c.args.served.now.slots) c.args.served.now.session.now c.args.index c.args.keys.items c.requires.can c.requires.all
     c.requires.fresh
 
 pub run_keys-requires-clause-some : goal.run_keys-requires-clause-some
 run_keys-requires-clause-some g c κs within =
-    let can : CanRunEach c.args.dir.now c.args.index (parts_of c.args.session.now.clients) c.args.keys.items = run_keys-requires-clause-can g c κs within in
-    omega (arith, can.one_each, length-map c.args.session.now.clients request_lines, c.requires.can.few.some)
+    let can : CanRunEach c.args.served.now.dir.now c.args.index (parts_of c.args.served.now.session.now.clients) c.args.keys.items = run_keys-requires-clause-can g c κs within in
+    omega (arith, can.one_each, length-map c.args.served.now.session.now.clients request_lines, c.requires.can.few.some)
 
 pub run_keys-requires-clause-few : goal.run_keys-requires-clause-few
 run_keys-requires-clause-few g c κs within =
-    let can : CanRunEach c.args.dir.now c.args.index (parts_of c.args.session.now.clients) c.args.keys.items = run_keys-requires-clause-can g c κs within in
-    omega (arith, can.one_each, length-map c.args.session.now.clients request_lines, c.requires.can.few.few)
+    let can : CanRunEach c.args.served.now.dir.now c.args.index (parts_of c.args.served.now.session.now.clients) c.args.keys.items = run_keys-requires-clause-can g c κs within in
+    omega (arith, can.one_each, length-map c.args.served.now.session.now.clients request_lines, c.requires.can.few.few)
 
 pub run_keys-requires-clause-fits : goal.run_keys-requires-clause-fits
-run_keys-requires-clause-fits g c κs within = depot_fits (named c.args.slots) c.args.session.now.clients c.args.keys.items c.requires.fresh
+run_keys-requires-clause-fits g c κs within = depot_fits (named c.args.served.now.slots) c.args.served.now.session.now.clients c.args.keys.items c.requires.fresh
 
 pub finish-requires : goal.finish-requires
 finish-requires g c =
-    let can : CanRunEach c.args.dir.now c.args.index (parts_of c.args.session.now.clients) c.args.keys.items =
-    can_run c.args.dir.now (named c.args.slots) c.args.session.now c.args.index c.args.keys.items c.requires.can c.requires.all
+    let can : CanRunEach c.args.served.now.dir.now c.args.index (parts_of c.args.served.now.session.now.clients) c.args.keys.items =
+    can_run c.args.served.now.dir.now (named c.args.served.now.slots) c.args.served.now.session.now c.args.index c.args.keys.items c.requires.can c.requires.all
     c.requires.fresh in
     record {
       all =
-          all_back (named c.args.slots) c.args.dir.now c.args.index (parts_of c.args.session.now.clients) c.args.keys.items c.in_ok-keys.keys.items
+          all_back (named c.args.served.now.slots) c.args.served.now.dir.now c.args.index (parts_of c.args.served.now.session.now.clients) c.args.keys.items c.in_ok-keys.keys.items
           (g.R.Runner.replied c.run_keys.new.runner) can c.in_ok-keys.ensures.ran c.requires.all;
     }
 
 pub returns-in-Ok-clause-ran : goal.returns-in-Ok-clause-ran
 returns-in-Ok-clause-ran g c =
-    ran_session c.args.dir.now (named c.args.slots) c.args.session.now c.args.index c.args.keys.items c.in_ok-keys.keys.items (g.R.Runner.replied c.run_keys.new.runner) c.in-Ok.updates.items
+    ran_session c.args.served.now.dir.now (named c.args.served.now.slots) c.args.served.now.session.now c.args.index c.args.keys.items c.in_ok-keys.keys.items (g.R.Runner.replied c.run_keys.new.runner) c.in-Ok.updates.items
     c.requires.can c.requires.all
     c.requires.fresh
     c.in_ok-keys.ensures.ran c.in-Ok.ensures.seen c.in-Ok.ensures.clients c.in-Ok.ensures.places
