@@ -1,0 +1,8 @@
+use Rattle.std.proofs.Common.{Some, sym, ap, ◌∙◌, subst}
+use Rattle.memchr.specs.Find.{IsLastByte, is_byte}
+use Rattle.request_lines.proofs.BrokenLines.{utf8_before}
+use Rattle.request_lines.proofs.said.whole_lines.Goals as goal
+
+pub returns-in-Err-clause-place : goal.returns-in-Err-clause-place
+returns-in-Err-clause-place c =
+    absurd (c.in-Err.ensures.cases.0 (rw c.split_at.ensures.front (utf8_before c.args.text.now c.in_some-end.end c.requires c.in_some-end.ensures)))
