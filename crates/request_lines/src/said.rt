@@ -65,7 +65,7 @@ impl Said {
     // Puts what these lines say here, where nothing stands yet but the cause of the line after them.
     fn push_lines(&mut self, alloc: Global, lines: Option<&str>) -> Result<(), NoMemory>
         requires { self.old.commands.items ≡ [] }
-        ensures { OnOk result ((texts : List (List ℕ)) → AreFirst lines.entry texts self.old.cause → Says texts self.new) }
+        ensures { (texts : List (List ℕ)) → AreFirst lines.entry texts self.old.cause → OnOk result (Says texts self.new) }
     {
         let mut left = lines;
         while let Some(text) = left {

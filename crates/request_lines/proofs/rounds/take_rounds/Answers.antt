@@ -1,4 +1,4 @@
-use Rattle.std.proofs.Common.{◌≡◌, ℕ, ◌+◌, List, drop, length, length-take, length-drop, sym, ap, subst, ◌∙◌, arith}
+use Rattle.std.proofs.Common.{◌≡◌, ℕ, ◌+◌, ◌^◌, ◌<◌, List, drop, length, length-take, length-drop, sym, ap, subst, ◌∙◌, arith}
 use Rattle.std.specs.Borrow.{Bor}
 use Rattle.std.proofs.lemmas.List.{drop_all}
 use Rattle.std.proofs.lemmas.Result.{err_from_is_err_and}
@@ -23,7 +23,8 @@ take_beside-requires-clause-few g c =
     let blocks = c.args.blocks.now in
     let round = c.round_at-round.result.now in
     let done = c.loop-done.done in
-    taken_few (texts_in round) (texts_in (drop (done + length round) blocks)) (round_cut blocks round done c.round_at-round.ensures.whole) c.loop-done.invariant.taken c.requires.few
+    let few : 0 + length (texts_in blocks) < 2 ^ 32 = omega (arith, c.requires.few) in
+    omega (arith, taken_few (texts_in round) (texts_in (drop (done + length round) blocks)) (round_cut blocks round done c.round_at-round.ensures.whole) c.loop-done.invariant.taken few)
 
 pub returns-in_err-number-clause-taken : goal.returns-in_err-number-clause-taken
 returns-in_err-number-clause-taken g c =

@@ -1,4 +1,4 @@
-use Rattle.std.proofs.Common.{◌≡◌, ◌++◌, [], ap, ◌∙◌}
+use Rattle.std.proofs.Common.{◌≡◌, ◌++◌, [], ap, ◌∙◌, arith}
 use Rattle.std.proofs.lemmas.Result.{err_from_is_err_and}
 use Rattle.request_lines.specs.InputParts.{texts_of, texts_left}
 use Rattle.request_lines.specs.Reading.{progress}
@@ -13,7 +13,7 @@ take_all-requires-clause-says c =
     let block = texts_of c.first_block.result.0.now in (
       block,
       c.read.ensures,
-      taken_few block (texts_left c.first_block.result.1) (ap texts_left c.in-Some.is ∙ c.first_block.ensures.cut) c.loop-left.invariant.taken c.requires.few,
+      taken_few block (texts_left c.first_block.result.1) (ap texts_left c.in-Some.is ∙ c.first_block.ensures.cut) c.loop-left.invariant.taken (omega (arith, c.requires.few)),
     )
 
 pub returns-in_err-number-clause-taken : goal.returns-in_err-number-clause-taken
