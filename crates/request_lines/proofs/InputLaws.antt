@@ -220,16 +220,17 @@ whole_start bytes = subst (IsHalfway bytes no_progress 1) (sym (append-nil (text
 pub halfway_whole : (bytes : List ℕ) (after : Progress) → HasTaken bytes after → IsHalfway bytes after (1 + length (texts_of bytes)) []
 halfway_whole bytes after taken = halfway_all bytes no_progress after 1 (texts_of bytes) [] taken.reached (whole_start bytes)
 
--- what a reader has taken that started before the first line
+-- a reader that started before the first line has taken all lines of the input, or refused one
+from_start : (bytes : List ℕ) (p after : Progress) (texts : List (List ℕ)) (r : Result ℕ SessionError) → p ≡ no_progress → texts ≡ texts_of bytes → TakesAll p 0 texts after r
+    → TakesAll no_progress 0 (texts_of bytes) after r
+from_start bytes p after texts r start same takes =
+    subst (λ (q : Progress). TakesAll q 0 (texts_of bytes) after r) start (subst (λ (ts : List (List ℕ)). TakesAll p 0 ts after r) same takes)
+
 pub taken_whole : (bytes : List ℕ) (p after : Progress) (texts : List (List ℕ)) (number : ℕ) → p ≡ no_progress → texts ≡ texts_of bytes → length bytes ≤ most_input_bytes
     → TakesAll p 0 texts after (Ok number) → HasTaken bytes after
-taken_whole bytes p after texts number start same small took = record {
-  small = small;
-  reached = subst (λ (q : Progress). Reaches q 1 (texts_of bytes) after) start (subst (λ (ts : List (List ℕ)). Reaches p 1 ts after) same took.1);
-}
+taken_whole bytes p after texts number start same small took = record { small = small; reached = (from_start bytes p after texts (Ok number) start same took).1 }
 
 pub refused_whole : (bytes : List ℕ) (p after : Progress) (texts : List (List ℕ)) (e : SessionError) → p ≡ no_progress → texts ≡ texts_of bytes → TakesAll p 0 texts after (Err e)
     → IsRefused bytes (Err e)
 refused_whole bytes p after texts e start same refused =
-    refused_among bytes no_progress after 0 (texts_of bytes) [] e
-    (subst (λ (q : Progress). TakesAll q 0 (texts_of bytes) after (Err e)) start (subst (λ (ts : List (List ℕ)). TakesAll p 0 ts after (Err e)) same refused)) (whole_start bytes)
+    refused_among bytes no_progress after 0 (texts_of bytes) [] e (from_start bytes p after texts (Err e) start same refused) (whole_start bytes)

@@ -44,7 +44,3 @@ pub first_cut : (lines : Option (Bor (List ℕ))) (texts front left : List (List
     → texts ≡ front ++ (left ++ are.behind)
 first_cut lines texts front left cause are cut =
     are.all ∙ ap (λ (all : List (List ℕ)). all ++ are.behind) cut ∙ append_assoc front left are.behind
-
-pub first_whole : (lines : Option (Bor (List ℕ))) (texts front : List (List ℕ)) (cause : Option Cause) → (are : AreFirst lines texts cause) → texts_left lines ≡ front ++ []
-    → texts ≡ front ++ are.behind
-first_whole lines texts front cause are cut = first_cut lines texts front [] cause are cut

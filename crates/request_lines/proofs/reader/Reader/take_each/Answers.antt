@@ -1,4 +1,4 @@
-use Rattle.std.proofs.Common.{◌≡◌, ℕ, ◌+◌, ◌<◌, List, drop, length, get_or, refl, sym, ap, subst, ◌∙◌, arith}
+use Rattle.std.proofs.Common.{◌≡◌, ℕ, ◌+◌, ◌<◌, ◌++◌, List, drop, length, get_or, refl, sym, ap, subst, ◌∙◌, arith}
 use Rattle.std.specs.Borrow.{Bor}
 use Rattle.std.proofs.lemmas.List.{length-set, get_or-set_other, drop_more, drop_all}
 use Rattle.std.proofs.lemmas.Result.{err_from_is_err_and}
@@ -9,10 +9,13 @@ use Rattle.request_lines.specs.Said.{IsRead, AreRead, texts_in}
 use Rattle.request_lines.proofs.TakingLaws.{AreTakenUpTo, taken_start, taken_few, taken_refused, taken_more, taken_end, block_of}
 use Rattle.request_lines.proofs.reader.Reader.take_each.Goals as goal
 
--- what the lines of the block at this place say is in the list that is there
-here_read : (blocks : List (Bor (List ℕ))) (said now : List Said) (i : ℕ) (d : Bor (List ℕ)) (e : Said) → AreRead blocks said → i < length blocks → e ≡ get_or now i e
-    → get_or now i e ≡ get_or said i e → IsRead (texts_of (get_or blocks i d).now) e
-here_read blocks said now i d e are lt here left = subst (IsRead (texts_of (get_or blocks i d).now)) (sym (here ∙ left)) (are.each i e lt d)
+-- the lines of the block at this place are the first that are left, and the list there has what they say
+at_place : (blocks : List (Bor (List ℕ))) (said now : List Said) (i : ℕ) (e : Said) → AreRead blocks said → i < length blocks → e ≡ get_or now i e → get_or now i e ≡ get_or said i e
+    → (texts : List (List ℕ)) × (texts_in (drop i blocks) ≡ texts ++ texts_in (drop (i + 1) blocks)) × IsRead texts e
+at_place blocks said now i e are lt here left =
+    let d = block_of blocks (omega arith) in
+    let texts = texts_of (get_or blocks i d).now in
+    (texts, ap texts_in (drop_more blocks i d lt), subst (IsRead texts) (sym (here ∙ left)) (are.each i e lt d))
 
 pub loop-place-init : goal.loop-place-init
 loop-place-init c = record {
@@ -26,39 +29,30 @@ pub take_all-requires-clause-says : goal.take_all-requires-clause-says
 take_all-requires-clause-says c =
     let i = c.loop-place.place in
     let blocks = c.args.blocks.now in
-    let lt : i < length blocks = c.loop-place-test.true in
-    let d = block_of blocks (omega arith) in
     let e = c.index_mut.result.now in
-    let texts = texts_of (get_or blocks i d).now in (
-      texts,
-      here_read blocks c.args.said.now.items c.loop-place.said.items i d e c.requires.read lt c.index_mut.ensures.value (c.loop-place.invariant.left i e (omega arith)),
-      taken_few texts (texts_in (drop (i + 1) blocks)) (ap texts_in (drop_more blocks i d lt)) c.loop-place.invariant.taken c.requires.few,
-    )
+    let here = at_place blocks c.args.said.now.items c.loop-place.said.items i e c.requires.read c.loop-place-test.true c.index_mut.ensures.value (c.loop-place.invariant.left i e (omega arith)) in
+    (here.0, here.2, taken_few here.0 (texts_in (drop (i + 1) blocks)) here.1 c.loop-place.invariant.taken c.requires.few)
 
 pub returns-in_err-number-clause-taken : goal.returns-in_err-number-clause-taken
 returns-in_err-number-clause-taken c =
     let error = err_from_is_err_and c.from_residual.result c.from_residual.ensures.1 in
     let i = c.loop-place.place in
     let blocks = c.args.blocks.now in
-    let lt : i < length blocks = c.loop-place-test.true in
-    let d = block_of blocks (omega arith) in
     let e = c.index_mut.result.now in
-    let texts = texts_of (get_or blocks i d).now in
-    let read = here_read blocks c.args.said.now.items c.loop-place.said.items i d e c.requires.read lt c.index_mut.ensures.value (c.loop-place.invariant.left i e (omega arith)) in
+    let here = at_place blocks c.args.said.now.items c.loop-place.said.items i e c.requires.read c.loop-place-test.true c.index_mut.ensures.value (c.loop-place.invariant.left i e (omega arith)) in
     rw (error.1, error.2)
-    (taken_refused texts (texts_in (drop (i + 1) blocks)) (ap texts_in (drop_more blocks i d lt)) c.loop-place.invariant.taken (progress c.take_all.new.self) c.in_err-number.field-0.0 (c.in_err-number.ensures.taken texts read))
+    (taken_refused here.0 (texts_in (drop (i + 1) blocks)) here.1 c.loop-place.invariant.taken
+    (progress c.take_all.new.self) c.in_err-number.field-0.0 (c.in_err-number.ensures.taken here.0 here.2))
 
 pub loop-place-preserved : goal.loop-place-preserved
 loop-place-preserved c =
     let i = c.loop-place.place in
     let blocks = c.args.blocks.now in
-    let lt : i < length blocks = c.loop-place-test.true in
-    let d = block_of blocks (omega arith) in
     let e = c.index_mut.result.now in
-    let texts = texts_of (get_or blocks i d).now in
-    let read = here_read blocks c.args.said.now.items c.loop-place.said.items i d e c.requires.read lt c.index_mut.ensures.value (c.loop-place.invariant.left i e (omega arith)) in
+    let here = at_place blocks c.args.said.now.items c.loop-place.said.items i e c.requires.read c.loop-place-test.true c.index_mut.ensures.value (c.loop-place.invariant.left i e (omega arith)) in
     record {
-      taken = taken_more texts (texts_in (drop (i + 1) blocks)) (ap texts_in (drop_more blocks i d lt)) c.loop-place.invariant.taken (progress c.take_all.new.self) c.in_ok-number.number (c.in_ok-number.ensures.taken texts read);
+      taken = taken_more here.0 (texts_in (drop (i + 1) blocks)) here.1 c.loop-place.invariant.taken
+          (progress c.take_all.new.self) c.in_ok-number.number (c.in_ok-number.ensures.taken here.0 here.2);
       within = c.in_ok-number.ensures.within;
       long = length-set c.loop-place.said.items i c.take_all.new.said ∙ c.loop-place.invariant.long;
       left = λ j d le. get_or-set_other c.loop-place.said.items i j c.take_all.new.said d (omega arith) ∙ c.loop-place.invariant.left j d (omega arith);

@@ -3,7 +3,7 @@ use Rattle.line_grammar.specs.declared.cause.Cause.{Cause}
 use Rattle.line_grammar.specs.declared.line_error.LineError.{LineError}
 use Rattle.request_lines.specs.InputParts.{texts_left}
 use Rattle.request_lines.specs.Said.{said_of, ReadsLine, StopsAt}
-use Rattle.request_lines.proofs.Saying.{IsSaidUpTo, said_start, said_next, said_more, first_cut, first_whole}
+use Rattle.request_lines.proofs.Saying.{IsSaidUpTo, said_start, said_next, said_more, first_cut}
 use Rattle.request_lines.proofs.said.Said.push_lines.Goals as goal
 
 pub loop-left-init : goal.loop-left-init
@@ -42,7 +42,7 @@ returns c texts are =
     record {
       front = now.front;
       behind = are.behind;
-      all = first_whole c.args.lines texts now.front c.args.self.now.cause are now.all;
+      all = first_cut c.args.lines texts now.front [] c.args.self.now.cause are now.all;
       commands = now.say;
       cause = subst (λ (cause : Option Cause). StopsAt are.behind cause) (sym c.loop-left.invariant.cause) are.stops;
     }
