@@ -1,5 +1,3 @@
-use Rattle.std.proofs.Common.{Some, sym, ap, ◌∙◌, subst}
-use Rattle.memchr.specs.Find.{IsLastByte, is_byte}
 use Rattle.request_lines.proofs.BrokenLines.{utf8_before}
 use Rattle.request_lines.proofs.said.whole_lines.Goals as goal
 

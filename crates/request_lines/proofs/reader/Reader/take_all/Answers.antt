@@ -1,7 +1,6 @@
-use Rattle.std.proofs.Common.{◌≡◌, ℕ, ◌+◌, ◌<◌, ◌++◌, [], List, Option, Err, length, get_or, refl, sym, subst, ◌∙◌, arith}
+use Rattle.std.proofs.Common.{◌≡◌, ℕ, ◌<◌, ◌++◌, [], List, Option, Err, length, get_or, refl, sym, subst, ◌∙◌, arith}
 use Rattle.std.proofs.lemmas.Result.{err_from_is_err_and}
 use Rattle.line_grammar.specs.declared.command.Command.{Command}
-use Rattle.request_lines.specs.declared.session_error.SessionError.{SessionError}
 use Rattle.std.proofs.lemmas.List.{length-set, get_or-set_other}
 use Rattle.request_lines.specs.Reading.{progress, TakesAll}
 use Rattle.request_lines.specs.Said.{SaysLine}
