@@ -10,10 +10,6 @@ use Rattle.line_grammar.specs.Texts.{◌>>=◌, is_number}
 use Rattle.line_grammar.specs.Line.{Parameter, listing_said, listing_read, parameters_read, parameter_causes, have, without_mark, is_max_keys}
 use Rattle.line_grammar.specs.QueryValues.{values_said, no_values, listing_of, query_read, list_read}
 
-said_same : (version : Version) (ps : List Parameter) → listing_said version ps ≡ listing_of version (values_said ps)
-said_same V1 ps = refl
-said_same V2 ps = refl
-
 by_cause : (version : Version) (ps : List Parameter) (cause : Option Cause)
     → option_map_or Err cause (Ok (listing_said version ps)) ≡ (option_map_or Err cause (Ok (values_said ps)) >>= (λ values. Ok (listing_of version values)))
 by_cause V1 ps None = refl

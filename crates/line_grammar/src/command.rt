@@ -19,7 +19,6 @@ use crate::verb::{PutWhen, Verb};
 use bucket_terms::{ListQuery, Record, Shared, V1Query};
 use key_names::Text;
 use std::alloc::Global;
-use std::str;
 
 /// What one line says.
 #[derive(Debug, Drop)]
@@ -44,19 +43,7 @@ pub enum Command {
 }
 
 /// What a line says, whatever came before it.
-#[tactic(auto, unfolding(crate::specs::Line::reading_of))]
-pub fn command_of(alloc: Global, text: &[u8]) -> Result<Command, LineError>
-    ensures reading { Reads result (reading_of text.now) }
-    ensures fine { IfOk result IsFineCommand }
-{
-    match str::from_utf8(text) {
-        Ok(line) => command_of_text(alloc, line),
-        Err(_) => Err(LineError::Faulty(Cause::NotUtf8)),
-    }
-}
-
-/// What a line that is known to be UTF-8 says.
-pub fn command_of_text(alloc: Global, line: &str) -> Result<Command, LineError>
+pub fn command_of(alloc: Global, line: &str) -> Result<Command, LineError>
     ensures reading { Reads result (reading_of line.now) }
     ensures fine { IfOk result IsFineCommand }
 {

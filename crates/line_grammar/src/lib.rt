@@ -1,6 +1,6 @@
 //! One line of a session: what it says, or the first cause for which it is refused, whatever came before it. The layer
-//! above cuts an input into lines, and uses `command_of`, or `command_of_text` for a line that is known to be UTF-8,
-//! and the grammar of `specs/Line.antt`.
+//! above cuts an input into lines, refuses one that is not UTF-8, and uses `command_of` and the grammar of
+//! `specs/Line.antt`.
 #![tactic(auto)]
 
 mod cause;
@@ -16,7 +16,7 @@ mod values;
 mod verb;
 
 pub use cause::Cause;
-pub use command::{Command, command_of, command_of_text};
+pub use command::{Command, command_of};
 pub use line_error::LineError;
 pub use parts::first_part;
 pub use verb::PutWhen;

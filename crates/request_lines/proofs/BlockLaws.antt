@@ -9,21 +9,9 @@ use Rattle.std.proofs.lemmas.List.{take-append-drop, drop_more, get_or-drop, len
 use Rattle.std.proofs.lemmas.List.Sums.{passes_at_first, count_by-le-length}
 use Rattle.std.proofs.lemmas.List.Splits.{slice_split-cons_yes, slice_split-cons_no, length-slice_split}
 use Rattle.std.specs.Str.Lines.{strip_carriage_return}
-use Rattle.line_grammar.proofs.TextLaws.{cut_at_first, not_cut}
 use Rattle.request_lines.specs.Input.{most_input_bytes}
 use Rattle.request_lines.specs.InputParts.{texts_of, texts_left}
 use Rattle.request_lines.specs.Said.{texts_in}
-
--- the lines of bytes that have a line feed, and of bytes that have none
-pub texts_cut : (bytes : List ℕ) (end : ℕ) (front back text : List ℕ) → position_or_len (λ b. b == 10) bytes ≡ end → end < length bytes
-    → front ≡ take end bytes → back ≡ drop (end + 1) bytes → text ≡ strip_carriage_return front → texts_of bytes ≡ text ∷ texts_of back
-texts_cut bytes end front back text place inside is_front is_back is_text =
-    let cut = cut_at_first (λ b. b == 10) bytes front back (omega arith) (rw place is_front) (rw place is_back) in
-    ap (map strip_carriage_return) cut ∙ ap (λ first. first ∷ texts_of back) (sym is_text)
-
-pub texts_whole : (bytes text : List ℕ) → position_or_len (λ b. b == 10) bytes ≡ length bytes → text ≡ strip_carriage_return bytes → texts_of bytes ≡ text ∷ []
-texts_whole bytes text none is_text =
-    ap (map strip_carriage_return) (not_cut (λ b. b == 10) bytes none) ∙ ap (λ first. first ∷ []) (sym is_text)
 
 -- a list that is cut has a part
 onto_append : (x : ℕ) (parts more : List (List ℕ)) → 0 < length parts → onto_first x (parts ++ more) ≡ onto_first x parts ++ more
@@ -49,6 +37,14 @@ texts_append xs ys =
     ap (map strip_carriage_return) (split_append (λ b. b == 10) xs 10 ys refl) ∙ map-append strip_carriage_return (slice_split (λ b. b == 10) xs) (slice_split (λ b. b == 10) ys)
 
 -- lines that are cut at a line feed
+pub texts_cut_at : (lines : List ℕ) (end : ℕ) → end < length lines → get_or lines end 0 ≡ 10 → texts_of lines ≡ texts_of (take end lines) ++ texts_of (drop (end + 1) lines)
+texts_cut_at lines end inside feed =
+    let cut : lines ≡ take end lines ++ 10 ∷ drop (end + 1) lines =
+    sym (take-append-drop end lines) ∙ ap (λ (back : List ℕ). take end lines ++ back) (drop_more lines end 0 inside)
+    ∙ ap (λ (b : ℕ). take end lines ++ b ∷ drop (end + 1) lines) feed in
+    ap texts_of cut ∙ texts_append (take end lines) (drop (end + 1) lines)
+
+-- and at the first one from a place on
 pub block_cut : (lines : List ℕ) (start end : ℕ) → start ≤ length lines → position_or_len (λ b. b == 10) (drop start lines) ≡ end → end < length (drop start lines)
     → start + end < length lines → texts_of lines ≡ texts_of (take (start + end) lines) ++ texts_of (drop (start + end + 1) lines)
 block_cut lines start end within place inside below =
@@ -56,10 +52,7 @@ block_cut lines start end within place inside below =
     let passes = passes_at_first (λ b. b == 10) (drop start lines) 0 (rw place inside) in
     let here : (get_or (drop start lines) end 0 == 10) ≡ true = subst (λ (n : ℕ). (get_or (drop start lines) n 0 == 10) ≡ true) place passes in
     let is = get_or-drop start lines end 0 in grind (arith, nat_tests) in
-    let cut : lines ≡ take (start + end) lines ++ 10 ∷ drop (start + end + 1) lines =
-    sym (take-append-drop (start + end) lines) ∙ ap (λ (back : List ℕ). take (start + end) lines ++ back) (drop_more lines (start + end) 0 below)
-    ∙ ap (λ (b : ℕ). take (start + end) lines ++ b ∷ drop (start + end + 1) lines) feed in
-    ap texts_of cut ∙ texts_append (take (start + end) lines) (drop (start + end + 1) lines)
+    texts_cut_at lines (start + end) below feed
 
 -- there are no more lines than bytes, and one
 texts_few : (bytes : List ℕ) → length (texts_of bytes) ≤ length bytes + 1
@@ -69,8 +62,8 @@ texts_few bytes =
     let same = length-map (slice_split (λ b. b == 10) bytes) strip_carriage_return in
     omega (arith, cut, few, same)
 
-pub texts_small : (bytes : List ℕ) (texts : List (List ℕ)) → texts ≡ texts_of bytes → length bytes ≤ most_input_bytes → 1 + length texts ≤ 2 ^ 32
-texts_small bytes texts same small = omega (arith, ap length same, texts_few bytes)
+pub texts_small : (bytes : List ℕ) → length bytes ≤ most_input_bytes → 1 + length (texts_of bytes) ≤ 2 ^ 32
+texts_small bytes small = omega (arith, texts_few bytes)
 
 -- the lines of one more block
 pub texts_push : (blocks : List (Bor (List ℕ))) (block : Bor (List ℕ)) → texts_in (blocks ++ block ∷ []) ≡ texts_in blocks ++ texts_of block.now

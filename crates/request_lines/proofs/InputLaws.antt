@@ -1,6 +1,5 @@
 -- What is kept of the lines so far, and what is left, make up the session of the whole input.
-use Rattle.std.proofs.Common.{◌≡◌, ℕ, ◌+◌, Bool, true, false, List, [], ◌∷◌, ◌++◌, length, map, drop, Option, Some, None, Result, Ok, Err, refl, ap, sym, subst, ◌∙◌, append_assoc, inl, inr, arith}
-use Rattle.std.specs.Borrow.{Bor}
+use Rattle.std.proofs.Common.{◌≡◌, ℕ, ◌+◌, ◌≤◌, Bool, true, false, List, [], ◌∷◌, ◌++◌, length, map, drop, Option, Some, None, Result, Ok, Err, refl, ap, sym, subst, ◌∙◌, append_assoc, inl, inr, arith}
 use Rattle.request_lines.specs.declared.session_error.SessionError.{SessionError}
 use Rattle.request_lines.specs.declared.session_error.SessionError.TheVariants as errors
 use Rattle.std.specs.Prelude.{slice_get, IfOk, IsOkUnless, ◌==◌, if◌then◌else◌}
@@ -18,12 +17,12 @@ use Rattle.request_lines.specs.declared.session.Asked.{Asked}
 use Rattle.request_lines.specs.declared.session.ClientPart.{ClientPart}
 use Rattle.request_lines.specs.declared.session.Session.{Session}
 use Rattle.request_lines.specs.declared.session_error.InputError.{InputError}
-use Rattle.request_lines.specs.InputParts.{texts_of, error_at, begins_client, texts_left}
+use Rattle.request_lines.specs.InputParts.{texts_of, error_at, begins_client}
 use Rattle.line_grammar.specs.Line.{reading_of}
-use Rattle.request_lines.specs.Input.{name_by, record_by}
+use Rattle.request_lines.specs.Input.{most_input_bytes, name_by, record_by}
 use Rattle.request_lines.specs.Counting.{counted_with, cause_by_counts}
 use Rattle.request_lines.proofs.CountedLines.{Line, lines_from, input_lines, error_of, refusal_of, asked_of, part_of, parts_of, names_of, records_of, IsSessionOf, IsRefused}
-use Rattle.request_lines.specs.Reading.{Progress, Takes, no_progress, all_ended, ended_by, current_by, kept, taken, error_of_text, Reaches, Meets, TakesAll}
+use Rattle.request_lines.specs.Reading.{Progress, no_progress, all_ended, ended_by, current_by, kept, taken, error_of_text, Reaches, Meets, TakesAll, HasTaken}
 
 -- the parts of all clients, with the lines that are left, cut at each line that begins a client
 abbrev with_pieces : Bool → List ClientPart → List Asked → List (List Line) → List ClientPart
@@ -161,7 +160,7 @@ halfway_more bytes p number text texts right half =
     ]
 
 -- and else it is the refusal
-pub halfway_refused : (bytes : List ℕ) (p : Progress) (number : ℕ) (text : List ℕ) (texts : List (List ℕ)) (e : InputError) → error_of_text p number text ≡ Some e
+halfway_refused : (bytes : List ℕ) (p : Progress) (number : ℕ) (text : List ℕ) (texts : List (List ℕ)) (e : InputError) → error_of_text p number text ≡ Some e
     → IsHalfway bytes p number (text ∷ texts) → refusal_of bytes ≡ Some e
 unfolding error_of_text lines_from
 halfway_refused bytes p number text texts e wrong half =
@@ -172,19 +171,6 @@ halfway_refused bytes p number text texts e wrong half =
           let refusal = rw full at half.refusal in
           sym (rw cause at refusal)
     ]
-
--- the lines that are left, of which this is the first
-pub halfway_next : (bytes : List ℕ) (p : Progress) (number : ℕ) (left rest : Option (Bor (List ℕ))) (lines : Bor (List ℕ)) (text : List ℕ) → left ≡ Some lines
-    → texts_of lines.now ≡ text ∷ texts_left rest → IsHalfway bytes p number (texts_left left) → IsHalfway bytes p number (text ∷ texts_left rest)
-halfway_next bytes p number left rest lines text is cut half =
-    let P : List (List ℕ) → Type 0 = IsHalfway bytes p number in
-    subst P (ap texts_left is ∙ cut) half
-
--- a line that is not taken is the refusal
-pub refused_at : (bytes : List ℕ) (p after : Progress) (number : ℕ) (text : List ℕ) (texts : List (List ℕ)) (e : SessionError) → Takes p number text after (Err e)
-    → IsHalfway bytes p number (text ∷ texts) → IsRefused bytes (Err e)
-refused_at bytes p after number text texts (errors.Input e) wrong half = halfway_refused bytes p number text texts e wrong half
-refused_at bytes p after number text texts errors.NoMemory wrong half = tt
 
 -- what a reader answers where no line is left
 pub session_at : (bytes : List ℕ) (p : Progress) (number : ℕ) (r : Result Session SessionError) → IsHalfway bytes p number []
@@ -200,7 +186,7 @@ answer_at bytes (Err (errors.Input e)) right memory = cc
 -- ---- several lines
 
 -- the next lines are taken where none has a cause
-pub halfway_all : (bytes : List ℕ) (p after : Progress) (number : ℕ) (texts behind : List (List ℕ)) → Reaches p number texts after
+halfway_all : (bytes : List ℕ) (p after : Progress) (number : ℕ) (texts behind : List (List ℕ)) → Reaches p number texts after
     → IsHalfway bytes p number (texts ++ behind) → IsHalfway bytes after (number + length texts) behind
 halfway_all bytes p after number [] behind reached half =
     let same : number ≡ number + length {A = List ℕ} [] = omega arith in
@@ -211,7 +197,7 @@ halfway_all bytes p after number (text ∷ texts) behind reached half =
     (halfway_all bytes (taken p number text) after (number + 1) texts behind reached.1 (halfway_more bytes p number text (texts ++ behind) reached.0 half))
 
 -- and else the first cause is the refusal
-pub halfway_meets : (bytes : List ℕ) (p : Progress) (number : ℕ) (texts behind : List (List ℕ)) (e : InputError) → Meets p number texts e
+halfway_meets : (bytes : List ℕ) (p : Progress) (number : ℕ) (texts behind : List (List ℕ)) (e : InputError) → Meets p number texts e
     → IsHalfway bytes p number (texts ++ behind) → refusal_of bytes ≡ Some e
 halfway_meets bytes p number [] behind e met half = elim met [ ]
 halfway_meets bytes p number (text ∷ texts) behind e met half =
@@ -228,14 +214,23 @@ refused_among bytes p after before texts behind errors.NoMemory met half = tt
 
 -- ---- all lines of the input
 
-whole_start : (bytes : List ℕ) (p : Progress) (texts : List (List ℕ)) → p ≡ no_progress → texts ≡ texts_of bytes → IsHalfway bytes p 1 (texts ++ [])
-whole_start bytes p texts start same =
-    subst (λ (q : Progress). IsHalfway bytes q 1 (texts ++ [])) (sym start) (subst (IsHalfway bytes no_progress 1) (sym (append-nil texts ∙ same)) (halfway_start bytes))
+whole_start : (bytes : List ℕ) → IsHalfway bytes no_progress 1 (texts_of bytes ++ [])
+whole_start bytes = subst (IsHalfway bytes no_progress 1) (sym (append-nil (texts_of bytes))) (halfway_start bytes)
 
-pub halfway_whole : (bytes : List ℕ) (p after : Progress) (texts : List (List ℕ)) → p ≡ no_progress → texts ≡ texts_of bytes → Reaches p 1 texts after
-    → IsHalfway bytes after (1 + length texts) []
-halfway_whole bytes p after texts start same reached = halfway_all bytes p after 1 texts [] reached (whole_start bytes p texts start same)
+pub halfway_whole : (bytes : List ℕ) (after : Progress) → HasTaken bytes after → IsHalfway bytes after (1 + length (texts_of bytes)) []
+halfway_whole bytes after taken = halfway_all bytes no_progress after 1 (texts_of bytes) [] taken.reached (whole_start bytes)
+
+-- a reader that started before the first line has taken all lines of the input, or refused one
+from_start : (bytes : List ℕ) (p after : Progress) (texts : List (List ℕ)) (r : Result ℕ SessionError) → p ≡ no_progress → texts ≡ texts_of bytes → TakesAll p 0 texts after r
+    → TakesAll no_progress 0 (texts_of bytes) after r
+from_start bytes p after texts r start same takes =
+    subst (λ (q : Progress). TakesAll q 0 (texts_of bytes) after r) start (subst (λ (ts : List (List ℕ)). TakesAll p 0 ts after r) same takes)
+
+pub taken_whole : (bytes : List ℕ) (p after : Progress) (texts : List (List ℕ)) (number : ℕ) → p ≡ no_progress → texts ≡ texts_of bytes → length bytes ≤ most_input_bytes
+    → TakesAll p 0 texts after (Ok number) → HasTaken bytes after
+taken_whole bytes p after texts number start same small took = record { small = small; reached = (from_start bytes p after texts (Ok number) start same took).1 }
 
 pub refused_whole : (bytes : List ℕ) (p after : Progress) (texts : List (List ℕ)) (e : SessionError) → p ≡ no_progress → texts ≡ texts_of bytes → TakesAll p 0 texts after (Err e)
     → IsRefused bytes (Err e)
-refused_whole bytes p after texts e start same refused = refused_among bytes p after 0 texts [] e refused (whole_start bytes p texts start same)
+refused_whole bytes p after texts e start same refused =
+    refused_among bytes no_progress after 0 (texts_of bytes) [] e (from_start bytes p after texts (Err e) start same refused) (whole_start bytes)

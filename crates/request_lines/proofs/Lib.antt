@@ -6,6 +6,7 @@ pub mod InputLaws
 pub mod Saying
 pub mod TakingLaws
 pub mod BlockLaws
+pub mod BrokenLines
 pub mod CheckInputs
 pub mod Rising
 pub mod Sound

@@ -195,9 +195,7 @@ put_cut name d more =
     left ∙ sym (ap (λ (text : List ℕ). codes "PUT " ++ text) key)
 
 delete_cut : (name more : List ℕ) → codes "DELETE " ++ name ++ codes "\n" ++ more ≡ (codes "DELETE" ++ 32 ∷ name) ++ 10 ∷ more
-delete_cut name more =
-    let left : codes "DELETE " ++ name ++ codes "\n" ++ more ≡ codes "DELETE " ++ (name ++ 10 ∷ more) = simp append_assoc in
-    left
+delete_cut name more = simp append_assoc
 
 list_cut : (d more : List ℕ) → codes "LIST prefix=s" ++ d ++ codes "/&max-keys=100\n" ++ more ≡ (codes "LIST" ++ 32 ∷ (codes "prefix=s" ++ d ++ codes "/&max-keys=100")) ++ 10 ∷ more
 list_cut d more =

@@ -2,8 +2,9 @@
 use Rattle.std.proofs.Common.{◌≡◌, ℕ, List, [], ◌∷◌, ◌++◌, Option, Some, refl, sym, ap, subst, ◌∙◌, append_assoc}
 use Rattle.std.specs.Borrow.{Bor}
 use Rattle.request_lines.specs.InputParts.{texts_of, texts_left}
+use Rattle.line_grammar.specs.declared.cause.Cause.{Cause}
 use Rattle.line_grammar.specs.declared.command.Command.{Command}
-use Rattle.request_lines.specs.Said.{SaysLine, SayInTurn}
+use Rattle.request_lines.specs.Said.{SaysLine, SayInTurn, AreFirst}
 
 -- the lines up to those that are left say these commands
 pub record IsSaidUpTo (texts left : List (List ℕ)) (commands : List (Option Command)) : Type 0 where
@@ -36,3 +37,10 @@ pub said_next : (texts : List (List ℕ)) (left rest : Option (Bor (List ℕ))) 
 said_next texts left rest lines text commands is cut said =
     let P : List (List ℕ) → Type 0 = λ behind. IsSaidUpTo texts behind commands in
     subst P (ap texts_left is ∙ cut) said
+
+-- ---- the first lines of others
+
+pub first_cut : (lines : Option (Bor (List ℕ))) (texts front left : List (List ℕ)) (cause : Option Cause) → (are : AreFirst lines texts cause) → texts_left lines ≡ front ++ left
+    → texts ≡ front ++ (left ++ are.behind)
+first_cut lines texts front left cause are cut =
+    are.all ∙ ap (λ (all : List (List ℕ)). all ++ are.behind) cut ∙ append_assoc front left are.behind

@@ -23,11 +23,12 @@ use Rattle.request_lines.specs.Input.{is_client, put_request}
 use Rattle.line_grammar.specs.Line.{reading_of}
 use Rattle.line_grammar.specs.Fine.{IsFineCommand}
 use Rattle.request_lines.specs.Counting.{counted, limit_by_counts, cause_by_counts}
-use Rattle.request_lines.specs.InputParts.{error_at}
-use Rattle.request_lines.specs.Reading.{Progress, no_progress, all_ended, kept, taken, error_of_text, Reaches}
+use Rattle.request_lines.specs.InputParts.{error_at, texts_of}
+use Rattle.request_lines.specs.Reading.{Progress, no_progress, all_ended, kept, taken, error_of_text, Reaches, HasTaken}
 use Rattle.request_lines.specs.Session.{request_line}
 use Rattle.request_lines.specs.SessionLaws.{all_requests, requested_name, record_place, asked_name, asked_place, IsFineRequest, IsServed}
 use Rattle.line_grammar.proofs.Fine.{IsFineReading, reading_fine}
+use Rattle.request_lines.proofs.BlockLaws.{texts_small}
 use Rattle.request_lines.proofs.Sound.{asked_so_far, IsPartServed, IsSound, sound_start, rises_higher, rises_push, served_more, all_ended_requests, all_ended_served, all_ended_rising, all_ended_length}
 
 -- a line that begins a client
@@ -270,5 +271,5 @@ sound_all p after number (text ∷ texts) reached positive small sound =
     (sound_all (taken p number text) after (number + 1) texts reached.1 (omega arith) (omega (arith, next, small))
     (sound_more p number text reached.0 positive (omega (arith, next, small)) sound))
 
-pub sound_whole : (p after : Progress) (texts : List (List ℕ)) → p ≡ no_progress → Reaches p 1 texts after → 1 + length texts ≤ 2 ^ 32 → IsSound after (1 + length texts)
-sound_whole p after texts start reached small = sound_all p after 1 texts reached (omega arith) small (subst (λ (q : Progress). IsSound q 1) (sym start) sound_start)
+pub sound_whole : (bytes : List ℕ) (after : Progress) → HasTaken bytes after → IsSound after (1 + length (texts_of bytes))
+sound_whole bytes after taken = sound_all no_progress after 1 (texts_of bytes) taken.reached (omega arith) (texts_small bytes taken.small) sound_start

@@ -1,9 +1,8 @@
 -- Lines that are taken by what they say, one after another.
-use Rattle.std.proofs.Common.{◌≡◌, ℕ, zero, suc, ◌+◌, ◌<◌, ◌≤◌, Bool, true, false, List, [], ◌∷◌, ◌++◌, length, take, drop, get_or, Option, Some, None, Result, Ok, Err, refl, sym, ap, subst, ◌∙◌, append_assoc, inl, inr, arith, length-append}
+use Rattle.std.proofs.Common.{◌≡◌, ℕ, zero, suc, ◌+◌, ◌^◌, ◌<◌, ◌≤◌, Bool, true, false, List, [], ◌∷◌, ◌++◌, length, take, drop, get_or, Option, Some, None, Result, Ok, Err, refl, sym, ap, subst, ◌∙◌, append_assoc, inl, inr, arith, length-append}
 use Rattle.std.specs.Prelude.{◌==◌, if◌then◌else◌}
 use Rattle.std.specs.Borrow.{Bor}
-use Rattle.std.proofs.Math.Seq.{take-add}
-use Rattle.std.proofs.lemmas.List.{take_more, drop_more, take-append-drop, append-nil, length-take-le, take_all}
+use Rattle.std.proofs.lemmas.List.{drop_more, drop_all, take-append-drop, append-nil, drop-drop}
 use Rattle.line_grammar.specs.declared.cause.Cause.{Cause}
 use Rattle.line_grammar.specs.declared.command.Command.{Command}
 use Rattle.line_grammar.specs.declared.line_error.LineError.{LineError}
@@ -63,7 +62,7 @@ pub says_fine : (text : List ℕ) (command : Command) → SaysLine text (Some co
 says_fine text command says = subst IsFineReading (full_line text (Ok command) says).1 (reading_fine text)
 
 -- a line with a cause of its own is refused, whatever came before it
-pub stops : (p : Progress) (number : ℕ) (text : List ℕ) (cause : Cause) → said_of text ≡ Some (Err cause) → error_of_text p number text ≡ Some (record { line = number; cause = cause })
+stops : (p : Progress) (number : ℕ) (text : List ℕ) (cause : Cause) → said_of text ≡ Some (Err cause) → error_of_text p number text ≡ Some (record { line = number; cause = cause })
 unfolding error_of_text
 stops p number text cause says =
     let full = full_line text (Err cause) says in
@@ -72,7 +71,7 @@ stops p number text cause says =
 -- ---- several lines
 
 module _ (q : Progress) where
-  pub reaches_append : (p r : Progress) (number : ℕ) (xs ys : List (List ℕ)) → Reaches p number xs q → Reaches q (number + length xs) ys r → Reaches p number (xs ++ ys) r
+  reaches_append : (p r : Progress) (number : ℕ) (xs ys : List (List ℕ)) → Reaches p number xs q → Reaches q (number + length xs) ys r → Reaches p number (xs ++ ys) r
   reaches_append p r number [] ys first second =
       let same : number + length {A = List ℕ} [] ≡ number = omega arith in
       subst (λ (n : ℕ). Reaches p n ys r) same (subst (λ (now : Progress). Reaches now (number + length {A = List ℕ} []) ys r) first second)
@@ -80,7 +79,7 @@ module _ (q : Progress) where
       let next : number + length (x ∷ xs) ≡ number + 1 + length xs = omega arith in
       (first.0, reaches_append (taken p number x) r (number + 1) xs ys first.1 (subst (λ (n : ℕ). Reaches q n ys r) next second))
 
-  pub meets_append : (p : Progress) (number : ℕ) (xs ys : List (List ℕ)) (e : InputError) → Reaches p number xs q → Meets q (number + length xs) ys e → Meets p number (xs ++ ys) e
+  meets_append : (p : Progress) (number : ℕ) (xs ys : List (List ℕ)) (e : InputError) → Reaches p number xs q → Meets q (number + length xs) ys e → Meets p number (xs ++ ys) e
   meets_append p number [] ys e first second =
       let same : number + length {A = List ℕ} [] ≡ number = omega arith in
       subst (λ (n : ℕ). Meets p n ys e) same (subst (λ (now : Progress). Meets now (number + length {A = List ℕ} []) ys e) first second)
@@ -89,7 +88,7 @@ module _ (q : Progress) where
       inr (first.0, meets_append (taken p number x) (number + 1) xs ys e first.1 (subst (λ (n : ℕ). Meets q n ys e) next second))
 
 -- a cause that is met in the first lines is met
-pub meets_front : (p : Progress) (number : ℕ) (xs ys : List (List ℕ)) (e : InputError) → Meets p number xs e → Meets p number (xs ++ ys) e
+meets_front : (p : Progress) (number : ℕ) (xs ys : List (List ℕ)) (e : InputError) → Meets p number xs e → Meets p number (xs ++ ys) e
 meets_front p number [] ys e met = elim met [ ]
 meets_front p number (x ∷ xs) ys e met =
     elim met [
@@ -97,19 +96,9 @@ meets_front p number (x ∷ xs) ys e met =
       | inr later ↦ inr (later.0, meets_front (taken p number x) (number + 1) xs ys e later.1)
     ]
 
--- one more line
-pub reaches_push : (p q after : Progress) (number : ℕ) (texts : List (List ℕ)) (text : List ℕ) → Reaches p number texts q → Takes q (number + length texts) text after (Ok tt)
-    → Reaches p number (texts ++ text ∷ []) after
-reaches_push p q after number texts text reached takes = reaches_append q p after number texts (text ∷ []) reached (takes.0, takes.1)
-
--- the next line is refused
-pub meets_next : (p q after : Progress) (number : ℕ) (texts : List (List ℕ)) (text : List ℕ) (behind : List (List ℕ)) (e : InputError) → Reaches p number texts q
-    → Takes q (number + length texts) text after (Err (errors.Input e)) → Meets p number (texts ++ text ∷ behind) e
-meets_next p q after number texts text behind e reached takes = meets_append q p number texts (text ∷ behind) e reached (inl takes)
-
 -- ---- the commands of a block
 
-pub say_length : (texts : List (List ℕ)) (commands : List (Option Command)) → SayInTurn texts commands → length texts ≡ length commands
+say_length : (texts : List (List ℕ)) (commands : List (Option Command)) → SayInTurn texts commands → length texts ≡ length commands
 say_length [] [] say = refl
 say_length [] (c ∷ commands) say = elim say [ ]
 say_length (t ∷ texts) [] say = elim say [ ]
@@ -135,135 +124,113 @@ says_fewer texts said cause says is =
     some_behind [] o is stops = cc
     some_behind (text ∷ texts) o is stops = omega arith
 
--- all lines of a block were taken
-pub takes_all : (p after : Progress) (before : ℕ) (texts : List (List ℕ)) (said : Said) → Says texts said → said.cause ≡ None
-    → ((front : List (List ℕ)) → SayInTurn front said.commands.items → Reaches p (before + 1) (take (length said.commands.items) front) after)
-    → TakesAll p before texts after (Ok (before + length said.commands.items))
-takes_all p after before texts said says none reached = at_end says.behind says.all (subst (StopsAt says.behind) none says.cause)
-  where
-    long : length says.front ≡ length said.commands.items
-    long = say_length says.front said.commands.items says.commands
+-- ---- lines that are taken part by part
 
-    whole : Reaches p (before + 1) says.front after
-    whole = subst (λ (ts : List (List ℕ)). Reaches p (before + 1) ts after) (take_all (length said.commands.items) says.front (omega (arith, long))) (reached says.front says.commands)
+-- of these lines, which have so many before them, the first were taken, up to this number, and these are left
+pub record AreTakenUpTo (p : Progress) (before : ℕ) (texts left : List (List ℕ)) (number : ℕ) (after : Progress) : Type 0 where
+  pub front : List (List ℕ)
+  pub all : texts ≡ front ++ left
+  pub count : number ≡ before + length front
+  pub reached : Reaches p (before + 1) front after
 
-    at_end : (behind : List (List ℕ)) → texts ≡ says.front ++ behind → StopsAt behind None → TakesAll p before texts after (Ok (before + length said.commands.items))
-    at_end [] all stops =
-        let same : texts ≡ says.front = all ∙ append-nil says.front in
-        (ap (λ n. before + n) (sym long ∙ ap length (sym same)), subst (λ (ts : List (List ℕ)). Reaches p (before + 1) ts after) (sym same) whole)
-    at_end (t ∷ behind) all stops = elim stops [ ]
+pub taken_start : (p : Progress) (before : ℕ) (texts : List (List ℕ)) → AreTakenUpTo p before texts texts before p
+taken_start p before texts = record { front = []; all = refl; count = omega arith; reached = refl }
 
--- the line after those that were taken has a cause of its own
-pub stops_behind : (p q after : Progress) (before : ℕ) (texts : List (List ℕ)) (said : Said) (cause : Cause) → Says texts said → said.cause ≡ Some cause
-    → ((front : List (List ℕ)) → SayInTurn front said.commands.items → Reaches p (before + 1) (take (length said.commands.items) front) q)
-    → TakesAll p before texts after (Err (session_error (before + length said.commands.items + 1) (faults.Faulty cause)))
-stops_behind p q after before texts said cause says is reached = at_end says.behind says.all (subst (StopsAt says.behind) is says.cause)
-  where
-    long : length says.front ≡ length said.commands.items
-    long = say_length says.front said.commands.items says.commands
+pub taken_end : (p after : Progress) (before : ℕ) (texts : List (List ℕ)) (number : ℕ) → AreTakenUpTo p before texts [] number after → TakesAll p before texts after (Ok number)
+taken_end p after before texts number taken =
+    let same : taken.front ≡ texts = sym (taken.all ∙ append-nil taken.front) in
+    (taken.count ∙ ap (λ (ts : List (List ℕ)). before + length ts) same, subst (λ (ts : List (List ℕ)). Reaches p (before + 1) ts after) same taken.reached)
 
-    whole : Reaches p (before + 1) says.front q
-    whole = subst (λ (ts : List (List ℕ)). Reaches p (before + 1) ts q) (take_all (length said.commands.items) says.front (omega (arith, long))) (reached says.front says.commands)
+-- the lines that are left begin with these
+module _ {p q : Progress} {before number : ℕ} {texts left : List (List ℕ)} (block behind : List (List ℕ)) (cut : left ≡ block ++ behind) (taken : AreTakenUpTo p before texts left number q) where
+  whole : texts ≡ taken.front ++ (block ++ behind)
+  whole = taken.all ∙ ap (λ (more : List (List ℕ)). taken.front ++ more) cut
 
-    number : before + 1 + length says.front ≡ before + length said.commands.items + 1
-    number = omega (arith, long)
+  next : number + 1 ≡ before + 1 + length taken.front
+  next = omega (arith, taken.count)
 
-    at_end : (behind : List (List ℕ)) → texts ≡ says.front ++ behind → StopsAt behind (Some cause)
-        → TakesAll p before texts after (Err (session_error (before + length said.commands.items + 1) (faults.Faulty cause)))
-    at_end [] all stop = cc
-    at_end (t ∷ behind) all stop =
-        subst (λ (ts : List (List ℕ)). Meets p (before + 1) ts (record { line = before + length said.commands.items + 1; cause = cause })) (sym all)
-        (meets_next p q after (before + 1) says.front t behind (record { line = before + length said.commands.items + 1; cause = cause }) whole
-        (subst (λ (n : ℕ). error_of_text q (before + 1 + length says.front) t ≡ Some (record { line = n; cause = cause })) number (stops q (before + 1 + length says.front) t cause stop)))
+  pub taken_few : before + length texts < 2 ^ 32 → number + length block < 2 ^ 32
+  taken_few few = omega (arith, few, taken.count, ap length whole, length-append taken.front (block ++ behind), length-append block behind)
 
--- a line inside a block is refused
-pub refused_in : (p q after : Progress) (before i : ℕ) (d : Option Command) (texts : List (List ℕ)) (said : Said) (e : SessionError) → Says texts said → i < length said.commands.items
-    → ((front : List (List ℕ)) → SayInTurn front said.commands.items → Reaches p (before + 1) (take i front) q)
-    → ((text : List ℕ) → SaysLine text (get_or said.commands.items i d) → Takes q (before + i + 1) text after (Err e))
-    → TakesAll p before texts after (Err e)
-refused_in p q after before i d texts said errors.NoMemory says lt reached refused = tt
-refused_in p q after before i d texts said (errors.Input e) says lt reached refused =
-    subst (λ (ts : List (List ℕ)). Meets p (before + 1) ts e) (sym cut)
-    (meets_next p q after (before + 1) (take i front) here (drop (i + 1) front ++ says.behind) e (reached front says.commands)
-    (subst (λ (n : ℕ). Takes q n here after (Err (errors.Input e))) number (refused here (say_at front said.commands.items i [] d says.commands lt))))
-  where
-    front : List (List ℕ)
-    front = says.front
+  -- they are refused
+  pub taken_refused : (after : Progress) (e : SessionError) → TakesAll q number block after (Err e) → TakesAll p before texts after (Err e)
+  taken_refused after errors.NoMemory refused = tt
+  taken_refused after (errors.Input e) refused =
+      subst (λ (all : List (List ℕ)). Meets p (before + 1) all e) (sym whole)
+      (meets_append q p (before + 1) taken.front (block ++ behind) e taken.reached
+      (meets_front q (before + 1 + length taken.front) block behind e (subst (λ (n : ℕ). Meets q n block e) next refused)))
 
-    long : length front ≡ length said.commands.items
-    long = say_length front said.commands.items says.commands
+  -- or taken
+  pub taken_more : (after : Progress) (count : ℕ) → TakesAll q number block after (Ok count) → AreTakenUpTo p before texts behind count after
+  taken_more after count took = record {
+    front = taken.front ++ block;
+    all = whole ∙ sym (append_assoc taken.front block behind);
+    count = omega (arith, took.0, taken.count, length-append taken.front block);
+    reached = reaches_append q p after (before + 1) taken.front block taken.reached (subst (λ (n : ℕ). Reaches q n block after) next took.1);
+  }
 
-    here : List ℕ
-    here = get_or front i []
+-- ---- the lines of a block, of which each says a command
 
-    number : before + i + 1 ≡ before + 1 + length (take i front)
-    number = omega (arith, length-take-le i front (omega (arith, long)))
+-- the line at a place is the first of those that are left
+line_left : (front behind : List (List ℕ)) (commands : List (Option Command)) (i : ℕ) → SayInTurn front commands → i < length commands
+    → drop i front ++ behind ≡ get_or front i [] ∷ (drop (i + 1) front ++ behind)
+line_left front behind commands i say lt = ap (λ (lines : List (List ℕ)). lines ++ behind) (drop_more front i [] (omega (arith, say_length front commands say)))
 
-    cut : texts ≡ take i front ++ here ∷ (drop (i + 1) front ++ says.behind)
-    cut =
-        says.all ∙ ap (λ (ts : List (List ℕ)). ts ++ says.behind) (sym (take-append-drop i front) ∙ ap (λ (ts : List (List ℕ)). take i front ++ ts) (drop_more front i [] (omega (arith, long))))
-        ∙ append_assoc (take i front) (here ∷ drop (i + 1) front) says.behind
+module _ {p q : Progress} {before number : ℕ} (after : Progress) (front behind : List (List ℕ)) (commands : List (Option Command)) (i : ℕ) (d : Option Command) (say : SayInTurn front commands)
+    (lt : i < length commands) (taken : AreTakenUpTo p before (front ++ behind) (drop i front ++ behind) number q) where
+  -- it is refused
+  pub line_refused : (e : SessionError) → ((text : List ℕ) → SaysLine text (get_or commands i d) → Takes q (number + 1) text after (Err e)) → TakesAll p before (front ++ behind) after (Err e)
+  line_refused e takes =
+      taken_refused (get_or front i [] ∷ []) (drop (i + 1) front ++ behind) (line_left front behind commands i say lt) taken after e (refuses e (takes (get_or front i []) (say_at front commands i [] d say lt)))
+    where
+      refuses : (e : SessionError) → Takes q (number + 1) (get_or front i []) after (Err e) → TakesAll q number (get_or front i [] ∷ []) after (Err e)
+      refuses errors.NoMemory refused = tt
+      refuses (errors.Input e) refused = inl refused
 
--- a line inside a block was taken
-pub taken_in : (p q after : Progress) (before i : ℕ) (d : Option Command) (commands : List (Option Command)) (front : List (List ℕ)) → SayInTurn front commands → i < length commands
-    → Reaches p (before + 1) (take i front) q
-    → ((text : List ℕ) → SaysLine text (get_or commands i d) → Takes q (before + i + 1) text after (Ok tt))
-    → Reaches p (before + 1) (take (i + 1) front) after
-taken_in p q after before i d commands front say lt reached takes =
-    let long = say_length front commands say in
-    let number : before + i + 1 ≡ before + 1 + length (take i front) = omega (arith, length-take-le i front (omega (arith, long))) in
-    let here = takes (get_or front i []) (say_at front commands i [] d say lt) in
-    subst (λ (ts : List (List ℕ)). Reaches p (before + 1) ts after) (sym (take_more front i [] (omega (arith, long))))
-    (reaches_push p q after (before + 1) (take i front) (get_or front i []) reached (subst (λ (n : ℕ). Takes q n (get_or front i []) after (Ok tt)) number here))
+  -- or taken
+  pub line_taken : ((text : List ℕ) → SaysLine text (get_or commands i d) → Takes q (number + 1) text after (Ok tt)) → AreTakenUpTo p before (front ++ behind) (drop (i + 1) front ++ behind) (number + 1) after
+  line_taken takes =
+      taken_more (get_or front i [] ∷ []) (drop (i + 1) front ++ behind) (line_left front behind commands i say lt) taken after (number + 1) (omega arith, takes (get_or front i []) (say_at front commands i [] d say lt))
+
+-- all of them were taken
+module _ (p q : Progress) (before number i : ℕ) (texts : List (List ℕ)) (said : Said) (says : Says texts said) (all : i ≡ length said.commands.items)
+    (taken : (front behind : List (List ℕ)) → SayInTurn front said.commands.items → AreTakenUpTo p before (front ++ behind) (drop i front ++ behind) number q) where
+  left : AreTakenUpTo p before texts says.behind number q
+  left =
+      let none = drop_all i says.front (omega (arith, all, say_length says.front said.commands.items says.commands)) in
+      let whole = subst (λ (lines : List (List ℕ)). AreTakenUpTo p before (says.front ++ says.behind) (lines ++ says.behind) number q) none (taken says.front says.behind says.commands) in
+      subst (λ (ts : List (List ℕ)). AreTakenUpTo p before ts says.behind number q) (sym says.all) whole
+
+  -- and there are no more
+  pub takes_all : said.cause ≡ None → TakesAll p before texts q (Ok number)
+  takes_all none = at_end says.behind left (subst (StopsAt says.behind) none says.cause)
+    where
+      at_end : (behind : List (List ℕ)) → AreTakenUpTo p before texts behind number q → StopsAt behind None → TakesAll p before texts q (Ok number)
+      at_end [] left stops = taken_end p q before texts number left
+      at_end (t ∷ behind) left stops = elim stops [ ]
+
+  -- or the next one has a cause of its own
+  pub stops_behind : (after : Progress) (cause : Cause) → said.cause ≡ Some cause → TakesAll p before texts after (Err (session_error (number + 1) (faults.Faulty cause)))
+  stops_behind after cause is = at_end says.behind left (subst (StopsAt says.behind) is says.cause)
+    where
+      at_end : (behind : List (List ℕ)) → AreTakenUpTo p before texts behind number q → StopsAt behind (Some cause) → TakesAll p before texts after (Err (session_error (number + 1) (faults.Faulty cause)))
+      at_end [] left here = cc
+      at_end (t ∷ behind) left here = taken_refused (t ∷ []) behind refl left after (session_error (number + 1) (faults.Faulty cause)) (inl (stops q (number + 1) t cause here))
 
 -- ---- the blocks of a round
 
--- the lines of the blocks, cut at a block
+-- the lines of the blocks, cut at a round of them
 texts_append : (xs ys : List (Bor (List ℕ))) → texts_in (xs ++ ys) ≡ texts_in xs ++ texts_in ys
 texts_append [] ys = refl
 texts_append (x ∷ xs) ys = ap (λ (more : List (List ℕ)). texts_of x.now ++ more) (texts_append xs ys) ∙ sym (append_assoc (texts_of x.now) (texts_in xs) (texts_in ys))
 
-pub texts_cut_at : (blocks : List (Bor (List ℕ))) (i : ℕ) (d : Bor (List ℕ)) → i < length blocks
-    → texts_in blocks ≡ texts_in (take i blocks) ++ (texts_of (get_or blocks i d).now ++ texts_in (drop (i + 1) blocks))
-texts_cut_at blocks i d lt =
-    ap texts_in (sym (take-append-drop i blocks)) ∙ texts_append (take i blocks) (drop i blocks)
-    ∙ ap (λ (back : List (Bor (List ℕ))). texts_in (take i blocks) ++ texts_in back) (drop_more blocks i d lt)
-
-pub texts_to : (blocks : List (Bor (List ℕ))) (i : ℕ) (d : Bor (List ℕ)) → i < length blocks
-    → texts_in (take (i + 1) blocks) ≡ texts_in (take i blocks) ++ texts_of (get_or blocks i d).now
-texts_to blocks i d lt =
-    ap texts_in (take_more blocks i d lt) ∙ texts_append (take i blocks) (get_or blocks i d ∷ [])
-    ∙ ap (λ (back : List (List ℕ)). texts_in (take i blocks) ++ back) (append-nil (texts_of (get_or blocks i d).now))
-
--- and cut at a round of blocks
-pub round_to : (blocks round : List (Bor (List ℕ))) (done : ℕ) → round ≡ take (length round) (drop done blocks)
-    → texts_in (take (done + length round) blocks) ≡ texts_in (take done blocks) ++ texts_in round
-round_to blocks round done whole =
-    ap texts_in (take-add done (length round) blocks) ∙ texts_append (take done blocks) (take (length round) (drop done blocks))
-    ∙ ap (λ (bs : List (Bor (List ℕ))). texts_in (take done blocks) ++ texts_in bs) (sym whole)
-
 pub round_cut : (blocks round : List (Bor (List ℕ))) (done : ℕ) → round ≡ take (length round) (drop done blocks)
-    → texts_in blocks ≡ texts_in (take done blocks) ++ (texts_in round ++ texts_in (drop (done + length round) blocks))
+    → texts_in (drop done blocks) ≡ texts_in round ++ texts_in (drop (done + length round) blocks)
 round_cut blocks round done whole =
-    let behind = texts_in (drop (done + length round) blocks) in
-    ap texts_in (sym (take-append-drop (done + length round) blocks)) ∙ texts_append (take (done + length round) blocks) (drop (done + length round) blocks)
-    ∙ ap (λ (front : List (List ℕ)). front ++ behind) (round_to blocks round done whole) ∙ append_assoc (texts_in (take done blocks)) (texts_in round) behind
-
--- a block after others is refused
-pub block_refused : (p q after : Progress) (before : ℕ) (front texts behind : List (List ℕ)) (e : SessionError) → Reaches p (before + 1) front q
-    → TakesAll q (before + length front) texts after (Err e) → TakesAll p before (front ++ (texts ++ behind)) after (Err e)
-block_refused p q after before front texts behind errors.NoMemory reached refused = tt
-block_refused p q after before front texts behind (errors.Input e) reached refused =
-    let number : before + length front + 1 ≡ before + 1 + length front = omega arith in
-    meets_append q p (before + 1) front (texts ++ behind) e reached
-    (meets_front q (before + 1 + length front) texts behind e (subst (λ (n : ℕ). Meets q n texts e) number refused))
-
--- or it was taken
-pub block_taken : (p q after : Progress) (before number : ℕ) (front texts : List (List ℕ)) → Reaches p (before + 1) front q
-    → TakesAll q (before + length front) texts after (Ok number) → (number ≡ before + length (front ++ texts)) × Reaches p (before + 1) (front ++ texts) after
-block_taken p q after before number front texts reached took =
-    let next : before + length front + 1 ≡ before + 1 + length front = omega arith in
-    (omega (arith, took.0, length-append front texts), reaches_append q p after (before + 1) front texts reached (subst (λ (n : ℕ). Reaches q n texts after) next took.1))
+    let left = drop done blocks in
+    ap texts_in (sym (take-append-drop (length round) left)) ∙ texts_append (take (length round) left) (drop (length round) left)
+    ∙ ap (λ (bs : List (Bor (List ℕ))). texts_in bs ++ texts_in (drop (length round) left)) (sym whole)
+    ∙ ap (λ (bs : List (Bor (List ℕ))). texts_in round ++ texts_in bs) (drop-drop (length round) done blocks)
 
 -- a block of some
 pub block_of : (blocks : List (Bor (List ℕ))) → 0 < length blocks → Bor (List ℕ)

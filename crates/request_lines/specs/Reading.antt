@@ -1,6 +1,6 @@
 -- Helper: the headline does not rest on this file.
 -- How far a reader has come: what it keeps of the lines so far.
-use Rattle.std.specs.Prelude.{◌≡◌, ◌⊎◌, ℕ, ◌+◌, ◌==◌, Bool, true, false, List, [], ◌∷◌, ◌++◌, length, Option, Some, None, Result, Ok, Err, if◌then◌else◌}
+use Rattle.std.specs.Prelude.{◌≡◌, ◌⊎◌, ℕ, ◌+◌, ◌≤◌, ◌==◌, Bool, true, false, List, [], ◌∷◌, ◌++◌, length, Option, Some, None, Result, Ok, Err, if◌then◌else◌}
 use Rattle.std.specs.Option.{option_to_list}
 use Rattle.bucket_terms.specs.declared.record.Record.{Record}
 use Rattle.line_grammar.specs.declared.cause.Cause.{Cause}
@@ -15,9 +15,9 @@ use Rattle.request_lines.specs.declared.session_error.InputError.{InputError}
 use Rattle.request_lines.specs.declared.session_error.SessionError.{SessionError}
 use Rattle.request_lines.specs.declared.session_error.SessionError.TheVariants as errors
 use Rattle.line_grammar.specs.Line.{reading_of}
-use Rattle.request_lines.specs.Input.{name_by, record_by}
+use Rattle.request_lines.specs.Input.{most_input_bytes, name_by, record_by}
 use Rattle.request_lines.specs.Counting.{none_counted, counted_with, cause_by_counts, request_by_counts}
-use Rattle.request_lines.specs.InputParts.{error_at, asked_at, begins_client}
+use Rattle.request_lines.specs.InputParts.{error_at, asked_at, begins_client, texts_of}
 
 -- what the lines so far have asked: how much, the parts of the clients that have ended, what the last client
 -- has asked, and the names and records
@@ -81,9 +81,6 @@ KeepsReading p number reading after (Ok done) = (cause_by_counts p.counts readin
 KeepsReading p number reading after (Err (faults.Faulty cause)) = cause_by_counts p.counts reading ≡ Some cause
 KeepsReading p number reading after (Err faults.NoMemory) = Unit {0}
 
-abbrev pub Keeps : Progress → ℕ → List ℕ → Progress → Result (Unit {0}) LineError → Type 0
-Keeps p number text after result = KeepsReading p number (reading_of text) after result
-
 -- these lines were taken in turn, of which the first has this number
 abbrev pub Reaches : Progress → ℕ → List (List ℕ) → Progress → Type 0
 Reaches p number [] after = after ≡ p
@@ -99,3 +96,8 @@ abbrev pub TakesAll : Progress → ℕ → List (List ℕ) → Progress → Resu
 TakesAll p before texts after (Ok number) = (number ≡ before + length texts) × Reaches p (before + 1) texts after
 TakesAll p before texts after (Err (errors.Input e)) = Meets p (before + 1) texts e
 TakesAll p before texts after (Err errors.NoMemory) = Unit {0}
+
+-- all lines of the input were taken
+pub record HasTaken (bytes : List ℕ) (after : Progress) : Type 0 where
+  pub small : length bytes ≤ most_input_bytes
+  pub reached : Reaches no_progress 1 (texts_of bytes) after

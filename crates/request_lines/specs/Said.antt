@@ -9,7 +9,7 @@ use Rattle.line_grammar.specs.declared.line_error.LineError.{LineError}
 use Rattle.line_grammar.specs.declared.line_error.LineError.TheVariants as faults
 use Rattle.request_lines.specs.declared.said.Said.{Said}
 use Rattle.line_grammar.specs.Line.{reading_of}
-use Rattle.request_lines.specs.InputParts.{texts_of}
+use Rattle.request_lines.specs.InputParts.{texts_of, texts_left}
 
 -- what a line says, or its own cause; nothing where it is empty
 unfoldable pub said_of : List ℕ → Option (Result Command Cause)
@@ -36,6 +36,12 @@ abbrev pub StopsAt : List (List ℕ) → Option Cause → Type 0
 StopsAt [] cause = cause ≡ None
 StopsAt (text ∷ texts) None = ⊥
 StopsAt (text ∷ texts) (Some cause) = said_of text ≡ Some (Err cause)
+
+-- these lines are the first of the texts, and after them there are no more, or the next one has this cause of its own
+pub record AreFirst (lines : Option (Bor (List ℕ))) (texts : List (List ℕ)) (cause : Option Cause) : Type 0 where
+  pub behind : List (List ℕ)
+  pub all : texts ≡ texts_left lines ++ behind
+  pub stops : StopsAt behind cause
 
 -- the lines say this, up to the first that has a cause of its own
 pub record Says (texts : List (List ℕ)) (said : Said) : Type 0 where

@@ -1,15 +1,15 @@
-// Blocks of lines, into which an input is cut so that several threads read what its lines say.
-ghost use Rattle.std.specs.Prelude.{◌≡◌, ◌≤◌, ◌++◌, length, IfOk};
+// Blocks of lines, into which an input is cut: each is read as a whole, several at once on threads.
+ghost use Rattle.std.specs.Prelude.{◌≡◌, ◌≤◌, ◌==◌, ◌++◌, length, IfOk};
+ghost use Rattle.std.specs.List.{position};
 ghost use Rattle.request_lines.specs.InputParts.{texts_of, texts_left};
 ghost use Rattle.line_grammar.specs.Left.{size_left};
 ghost use Rattle.request_lines.specs.Said.{texts_in};
 
-use crate::read::line_feed;
 use key_names::NoMemory;
+use memchr::memchr;
 use std::alloc::Global;
 
-/// The fewest bytes of the lines of a block other than the last. An input of no more bytes starts no thread. A block
-/// is tested for UTF-8 as a whole; one that fails is read line by line, so that each line has its own cause.
+/// The fewest bytes of the lines of a block other than the last. An input of no more bytes starts no thread.
 pub(crate) const BLOCK_BYTES: usize = 1 << 18;
 
 /// The blocks of these lines, in order.
@@ -26,8 +26,8 @@ pub(crate) fn blocks_of(alloc: Global, lines: &[u8]) -> Result<Vec<&[u8]>, NoMem
     Ok(blocks)
 }
 
-// The first block of these lines, and what is left after it: None after the last one.
-fn first_block(lines: &[u8]) -> (&[u8], Option<&[u8]>)
+/// The first block of these lines, and what is left after it: None after the last one.
+pub(crate) fn first_block(lines: &[u8]) -> (&[u8], Option<&[u8]>)
     ensures cut { texts_of lines.now ≡ texts_of result.0.now ++ texts_left result.1 }
     ensures shorter { size_left result.1 ≤ length lines.now }
 {
@@ -40,4 +40,11 @@ fn first_block(lines: &[u8]) -> (&[u8], Option<&[u8]>)
         }
         None => (lines, None),
     }
+}
+
+// The place of the first line feed.
+fn line_feed(bytes: &[u8]) -> Option<usize>
+    ensures { result ≡ position (λ b. b == 10) bytes.now }
+{
+    memchr(b'\n', bytes)
 }

@@ -7,7 +7,8 @@ ghost use Rattle.request_lines.specs.CheckInput.{IsCheckInput, session_part, tex
 ghost use Rattle.request_lines.specs.CheckAnswers.{IsCheckRefused};
 ghost use Rattle.request_lines.specs.SessionLaws.{HasNames, HasRecords, HasRequests, HasLines, IsSmall};
 
-use crate::read::{read_session, without_return};
+use crate::lines::without_return;
+use crate::read::read_session;
 use crate::{Cause, InputError, Session, SessionError};
 use memchr::memchr;
 use std::alloc::Global;

@@ -1,4 +1,4 @@
-//! A session's text, read line by line: which clients there are, what each of them asks, and the first fault. The
+//! A session's text, read block by block: which clients there are, what each of them asks, and the first fault. The
 //! layers above use `read_session` and `read_session_on_threads`, what `specs/SessionLaws.antt` says of every
 //! session, and the grammar of `specs/Input.antt`; and, for a session followed by a written text, `read_check_input`
 //! and `line_len`. `sample_session` makes the generated session.
@@ -12,6 +12,7 @@ mod interner;
 mod known;
 mod leads;
 mod limits;
+mod lines;
 mod name_hints;
 mod names;
 mod read;

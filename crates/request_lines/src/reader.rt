@@ -6,9 +6,12 @@ ghost use Rattle.request_lines.specs.declared.session_error.SessionError.TheVari
 ghost use Rattle.request_lines.specs.Counting.{IsWithin, counted};
 ghost use Rattle.request_lines.specs.Input as spec;
 ghost use Rattle.line_grammar.specs.Fine.{IsFineCommand};
+ghost use Rattle.request_lines.specs.Input.{IsSessionOf};
 ghost use Rattle.request_lines.specs.InputParts.{most_requests};
-ghost use Rattle.request_lines.specs.Reading.{progress, no_progress, all_ended, kept, session_error, Takes, Keeps, KeepsReading};
+ghost use Rattle.request_lines.specs.Reading.{progress, no_progress, all_ended, kept, session_error, Takes, KeepsReading, HasTaken};
+ghost use Rattle.request_lines.specs.Refusal.{IsRefused};
 ghost use Rattle.request_lines.specs.Said.{SaysLine};
+ghost use Rattle.request_lines.specs.SessionLaws.{HasNames, HasRecords, HasRequests, HasLines, IsSmall};
 
 use crate::counts::Counts;
 use crate::interner::Interner;
@@ -17,7 +20,7 @@ use crate::{Asked, ClientPart, InputError, Requests, Session, SessionError};
 use bucket_terms::{Record, Request};
 use key_map::Items;
 use key_names::{NoMemory, Text};
-use line_grammar::{Command, LineError, PutWhen, command_of};
+use line_grammar::{Command, LineError, PutWhen};
 use std::alloc::Global;
 use std::mem;
 
@@ -61,38 +64,6 @@ impl Reader {
         self.names.make_room(lines, lines);
         // Without the room the list grows as it is filled.
         let _ = self.records.reserve(lines);
-    }
-
-    /// Takes the next line, which has this number.
-    #[tactic(auto, unfolding(crate::specs::Reading::taken, crate::specs::Reading::error_of_text))]
-    pub(crate) fn take(
-        &mut self,
-        alloc: Global,
-        number: u32,
-        text: &[u8],
-    ) -> Result<(), SessionError>
-        requires { IsWithin self.old.counts }
-        ensures taken { Takes (progress self.old) number text.now (progress self.new) result }
-        ensures within { OnOk result (IsWithin self.new.counts) }
-    {
-        if text.is_empty() {
-            return Ok(());
-        }
-        match self.read(alloc, number, text) {
-            Ok(()) => Ok(()),
-            Err(error) => Err(error_at(number, error)),
-        }
-    }
-
-    // Takes the next line, which is not empty.
-    fn read(&mut self, alloc: Global, number: u32, text: &[u8]) -> Result<(), LineError>
-        requires { IsWithin self.old.counts }
-        ensures kept { Keeps (progress self.old) number text.now (progress self.new) result }
-        ensures within { OnOk result (IsWithin self.new.counts) }
-    {
-        let command = command_of(alloc, text)?;
-        let hint = NameHint::of(&command);
-        self.admit(alloc, number, command, hint)
     }
 
     // Takes the next line, which says this.
@@ -207,8 +178,25 @@ impl Reader {
         Ok(())
     }
 
-    /// The session of the lines so far, where no line is left.
+    /// The session of an input of which all lines were taken.
     pub(crate) fn finish(self, alloc: Global) -> Result<Session, SessionError>
+        requires within { IsWithin self.counts }
+        requires taken { (bytes : List ℕ) × HasTaken bytes (progress self) }
+        ensures session { (bytes : List ℕ) → HasTaken bytes (progress self) → IfOk result (IsSessionOf bytes) }
+        ensures refused { (bytes : List ℕ) → HasTaken bytes (progress self) → IsRefused bytes result }
+
+        // What the layers above need of every session.
+        ensures names { IfOk result HasNames }
+        ensures records { IfOk result HasRecords }
+        ensures requests { IfOk result HasRequests }
+        ensures lines { IfOk result HasLines }
+        ensures small { IfOk result IsSmall }
+    {
+        self.kept_session(alloc)
+    }
+
+    // The session of what is kept of the lines so far.
+    fn kept_session(self, alloc: Global) -> Result<Session, SessionError>
         requires { length self.names ≤ most_requests }
         ensures clients { IfOk result (λ s. s.clients ≡ all_ended (progress self)) }
         ensures names { IfOk result (λ s. s.names ≡ self.names) }

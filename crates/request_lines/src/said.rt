@@ -1,13 +1,17 @@
 // What the lines of a block of an input say.
-ghost use Rattle.std.specs.Prelude.{◌≡◌, [], length, None, OnOk};
+ghost use Rattle.std.specs.Prelude.{◌≡◌, ℕ, List, [], length, take, OnOk, IfSome};
+ghost use Rattle.std.specs.Option.{option_map};
+ghost use Rattle.std.specs.Str.{IsUtf8};
+ghost use Rattle.memchr.specs.Find.{IsLastByte, is_byte};
 ghost use Rattle.request_lines.specs.InputParts.{texts_of};
-ghost use Rattle.request_lines.specs.Said.{Says, IsRead, ReadsLine};
+ghost use Rattle.request_lines.specs.Said.{Says, IsRead, AreFirst, ReadsLine};
 
-use crate::read::{first_line, first_line_of_text};
+use crate::lines::first_line;
 use crate::room::make_room;
 use key_names::NoMemory;
-use line_grammar::{Cause, Command, LineError, command_of, command_of_text};
-use simdutf8::basic::from_utf8;
+use line_grammar::{Cause, Command, LineError, command_of};
+use memchr::memrchr;
+use simdutf8::compat::from_utf8;
 use std::alloc::Global;
 use std::mem;
 
@@ -53,23 +57,20 @@ impl Said {
         // Without the room the list grows as it is filled.
         let _ = self.commands.reserve(block.len() / LINE_BYTES);
         make_text_room(alloc, block);
-        self.cause = None;
-        self.memory = match from_utf8(block) {
-            Ok(text) => self.push_text(alloc, text),
-            Err(_) => self.push_lines(alloc, block),
-        };
+        let (lines, cause) = text_lines(block);
+        self.cause = cause;
+        self.memory = self.push_lines(alloc, lines);
     }
 
-    // As `push_lines`, for a block that was tested for UTF-8 as a whole, which is faster than line by line.
-    fn push_text(&mut self, alloc: Global, block: &str) -> Result<(), NoMemory>
-        requires no_line { self.old.commands.items ≡ [] }
-        requires no_cause { self.old.cause ≡ None }
-        ensures { OnOk result (Says (texts_of block.now) self.new) }
+    // Puts what these lines say here, where nothing stands yet but the cause of the line after them.
+    fn push_lines(&mut self, alloc: Global, lines: Option<&str>) -> Result<(), NoMemory>
+        requires { self.old.commands.items ≡ [] }
+        ensures { (texts : List (List ℕ)) → AreFirst lines.entry texts self.old.cause → OnOk result (Says texts self.new) }
     {
-        let mut left = Some(block);
-        while let Some(lines) = left {
-            let (text, rest) = first_line_of_text(lines);
-            match text_said(alloc, text) {
+        let mut left = lines;
+        while let Some(text) = left {
+            let (line, rest) = first_line(text);
+            match line_said(alloc, line) {
                 Ok(command) => self.commands.push(command)?,
                 Err(LineError::Faulty(cause)) => {
                     self.cause = Some(cause);
@@ -81,27 +82,33 @@ impl Said {
         }
         Ok(())
     }
+}
 
-    // Puts what the lines of the block say here, where nothing stands yet.
-    fn push_lines(&mut self, alloc: Global, block: &[u8]) -> Result<(), NoMemory>
-        requires no_line { self.old.commands.items ≡ [] }
-        requires no_cause { self.old.cause ≡ None }
-        ensures { OnOk result (Says (texts_of block.now) self.new) }
-    {
-        let mut left = Some(block);
-        while let Some(lines) = left {
-            let (text, rest) = first_line(lines);
-            match line_said(alloc, text) {
-                Ok(command) => self.commands.push(command)?,
-                Err(LineError::Faulty(found)) => {
-                    self.cause = Some(found);
-                    return Ok(());
-                }
-                Err(LineError::NoMemory) => return Err(NoMemory),
-            }
-            left = rest;
+// The lines of a block up to the first that is not UTF-8, and the cause of that one, where there is one. The block is
+// tested as a whole, which is faster than line by line.
+fn text_lines(block: &[u8]) -> (Option<&str>, Option<Cause>)
+    ensures { AreFirst result.0 (texts_of block.now) result.1 }
+{
+    match from_utf8(block) {
+        Ok(text) => (Some(text), None),
+        Err(error) => {
+            let (front, _) = block.split_at(error.valid_up_to());
+            (whole_lines(front), Some(Cause::NotUtf8))
         }
-        Ok(())
+    }
+}
+
+// The lines of a text before its last line feed.
+fn whole_lines(text: &[u8]) -> Option<&str>
+    requires { IsUtf8 text.now }
+    ensures place { IsLastByte (is_byte 10) text.now (option_map (λ lines. length lines.now) result) }
+    ensures front { IfSome result (λ lines. lines.now ≡ take (length lines.now) text.now) }
+{
+    let end = memrchr(b'\n', text)?;
+    let (lines, _) = text.split_at(end);
+    match from_utf8(lines) {
+        Ok(lines) => Some(lines),
+        Err(_) => None,
     }
 }
 
@@ -116,27 +123,13 @@ fn make_text_room(alloc: Global, block: &[u8]) {
 
 // What a line says; None where it is empty.
 #[tactic(auto, unfolding(crate::specs::Said::said_of))]
-fn line_said(alloc: Global, text: &[u8]) -> Result<Option<Command>, LineError>
-    ensures { ReadsLine text.now result }
+fn line_said(alloc: Global, line: &str) -> Result<Option<Command>, LineError>
+    ensures { ReadsLine line.now result }
 {
-    if text.is_empty() {
+    if line.is_empty() {
         return Ok(None);
     }
-    match command_of(alloc, text) {
-        Ok(command) => Ok(Some(command)),
-        Err(error) => Err(error),
-    }
-}
-
-// The same of a line that is known to be UTF-8.
-#[tactic(auto, unfolding(crate::specs::Said::said_of))]
-fn text_said(alloc: Global, text: &str) -> Result<Option<Command>, LineError>
-    ensures { ReadsLine text.now result }
-{
-    if text.is_empty() {
-        return Ok(None);
-    }
-    match command_of_text(alloc, text) {
+    match command_of(alloc, line) {
         Ok(command) => Ok(Some(command)),
         Err(error) => Err(error),
     }

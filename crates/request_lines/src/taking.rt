@@ -1,10 +1,12 @@
 // What the lines of blocks say is checked against the limits, and kept.
 ghost use Rattle.std.specs.Prelude.{◌≡◌, ℕ, ◌+◌, ◌<◌, ◌^◌, List, length, OnOk};
 ghost use Rattle.request_lines.specs.Counting.{IsWithin};
+ghost use Rattle.request_lines.specs.InputParts.{texts_of};
 ghost use Rattle.request_lines.specs.Reading.{progress, TakesAll};
 ghost use Rattle.request_lines.specs.Said.{IsRead, AreRead, texts_in};
 
 use crate::SessionError;
+use crate::blocks::first_block;
 use crate::name_hints::NameHints;
 use crate::reader::{Reader, error_at};
 use crate::said::Said;
@@ -52,6 +54,25 @@ impl Reader {
         let mut number = before;
         for place in 0..blocks.len() {
             number = self.take_all(alloc, number, &mut said[place])?;
+        }
+        Ok(number)
+    }
+
+    /// Reads the lines of an input block by block, takes them, and returns how many there are.
+    pub(crate) fn take_in_turn(&mut self, alloc: Global, bytes: &[u8]) -> Result<u32, SessionError>
+        requires within { IsWithin self.old.counts }
+        requires few { length (texts_of bytes.now) < 2 ^ 32 }
+        ensures taken { TakesAll (progress self.old) 0 (texts_of bytes.now) (progress self.new) result }
+        ensures within { OnOk result (IsWithin self.new.counts) }
+    {
+        let mut said = Said::new(alloc);
+        let mut number = 0;
+        let mut left = Some(bytes);
+        while let Some(lines) = left {
+            let (block, rest) = first_block(lines);
+            said.read(alloc, block);
+            number = self.take_all(alloc, number, &mut said)?;
+            left = rest;
         }
         Ok(number)
     }

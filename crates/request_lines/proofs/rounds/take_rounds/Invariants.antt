@@ -1,7 +1,8 @@
-use Rattle.std.proofs.Common.{◌≡◌, ◌+◌, ◌-◌, ◌≤◌, length, take, drop}
+use Rattle.std.proofs.Common.{◌≡◌, ◌-◌, ◌≤◌, length, take, drop}
 use Rattle.request_lines.specs.Counting.{IsWithin}
-use Rattle.request_lines.specs.Reading.{progress, Reaches}
+use Rattle.request_lines.specs.Reading.{progress}
 use Rattle.request_lines.specs.Said.{AreRead, texts_in}
+use Rattle.request_lines.proofs.TakingLaws.{AreTakenUpTo}
 use Rattle.request_lines.proofs.rounds.take_rounds.Given as goal
 
 abbrev pub invariant-loop-done : goal.invariant-loop-done
@@ -10,9 +11,8 @@ invariant-loop-done g l = record {
   spare_room : length l.spare.items ≡ l.most;
   read : AreRead (take l.most (drop l.done l.blocks)) l.said.items;
   inside : l.done ≤ length l.blocks;
-  number : l.number ≡ 0 + length (texts_in (take l.done l.blocks));
+  taken : AreTakenUpTo (progress l.fn.reader) 0 (texts_in l.blocks) (texts_in (drop l.done l.blocks)) l.number (progress l.reader);
   within : IsWithin l.reader.counts;
-  reached : Reaches (progress l.fn.reader) 1 (texts_in (take l.done l.blocks)) (progress l.reader);
 }
 
 abbrev pub decreases-loop-done : goal.decreases-loop-done
