@@ -1,5 +1,6 @@
 -- A client's run with one more answer.
-use Rattle.std.proofs.Common.{◌≡◌, ℕ, suc, ◌+◌, ◌*◌, ◌<◌, ◌≤◌, ◌==◌, ◌&&◌, cond, nat_lt, if◌then◌else◌, All, Any, List, [], ◌∷◌, ◌++◌, None, inl, inr, length, get_or, refl, sym, ap, ◌∙◌, subst, arith, append-nil, append_assoc}
+use Rattle.std.proofs.Common.{◌≡◌, ℕ, suc, ◌+◌, ◌*◌, ◌<◌, ◌≤◌, ◌==◌, ◌&&◌, cond, nat_lt, if◌then◌else◌, All, Any, MatchOption, Option, Some, List, [], ◌∷◌, ◌++◌, None, inl, inr, length, get_or, refl, sym, ap, ◌∙◌, subst, arith, append-nil, append_assoc}
+use Rattle.std.specs.Bool.{⊤}
 use Rattle.std.specs.List.{count_by}
 use Rattle.std.proofs.lemmas.Bool.{cases_lt}
 use Rattle.std.proofs.lemmas.Bool.Decides.{nat_tests}
@@ -11,7 +12,7 @@ use Rattle.key_map.specs.declared.update.Update.{Update}
 use Rattle.key_map.specs.History.{places_from}
 use Rattle.bucket_terms.specs.declared.reply.Placed.{Placed}
 use Rattle.bucket_terms.specs.PassView.{PassView, KnowsOwn}
-use Rattle.bucket_terms.specs.LegalRun.{Setting, RequestLine, Answered, IsAnswered, AreAnswered, answered_lines, is_update}
+use Rattle.bucket_terms.specs.LegalRun.{Setting, RequestLine, Answered, IsAnswered, AreAnswered, KeepsOrder, answered_lines, is_update}
 use Rattle.bucket_terms.specs.RunParts.{IsPlacedUpTo, is_earlier_of}
 use Rattle.client_run.specs.ClientRun.{IsLaterLine, RanClient}
 
@@ -55,12 +56,33 @@ pub Any-last : {X : Type 0} (P : X → Type 0) (xs : List X) (x : X) → P x →
 Any-last P xs x here = (length xs, x, omega (arith, length_push xs x), get_or_push xs x x (length xs) refl, here)
 
 -- what is true of each line is true of each answered line
-All-answered : (P : RequestLine → Type 0) (lines : List RequestLine) (replies : List Placed) → All P lines → All (λ (a : Answered). P a.asked) (answered_lines lines replies)
+pub All-answered : (P : RequestLine → Type 0) (lines : List RequestLine) (replies : List Placed) → All P lines → All (λ (a : Answered). P a.asked) (answered_lines lines replies)
 All-answered P [] replies all = λ k d below. absurd (omega arith)
 All-answered P (l ∷ lines) [] all = λ k d below. absurd (omega arith)
 All-answered P (l ∷ lines) (p ∷ replies) all =
     All-cons (λ (a : Answered). P a.asked) (record { asked = l; placed = p }) (answered_lines lines replies) (all 0 l (omega arith))
     (All-answered P lines replies (λ j e within. all (suc j) e (omega arith)))
+
+-- as many replies as lines, each at a place of the history, if it has one
+pub answered_length : (s : Setting) (earlier : List Answered) (lines : List RequestLine) (replies : List Placed) → AreAnswered s earlier lines replies → length lines ≡ length replies
+answered_length s earlier [] [] answers = refl
+answered_length s earlier [] (p ∷ replies) answers = absurd answers
+answered_length s earlier (l ∷ lines) [] answers = absurd answers
+answered_length s earlier (l ∷ lines) (p ∷ replies) answers = ap suc (answered_length s (earlier ++ record { asked = l; placed = p } ∷ []) lines replies answers.1)
+
+place_upto : (s : Setting) (earlier : List Answered) (line : ℕ) (at : Option ℕ) → MatchOption at ⊤ (KeepsOrder s earlier line) → MatchOption at ⊤ (λ place. place ≤ length s.updates)
+place_upto s earlier line None order = tt
+place_upto s earlier line (Some place) order = order.within
+
+pub answered_upto : (s : Setting) (earlier : List Answered) (lines : List RequestLine) (replies : List Placed) → AreAnswered s earlier lines replies
+    → All (IsPlacedUpTo (length s.updates)) (answered_lines lines replies)
+answered_upto s earlier [] [] answers = λ k d below. absurd (omega arith)
+answered_upto s earlier [] (p ∷ replies) answers = absurd answers
+answered_upto s earlier (l ∷ lines) [] answers = absurd answers
+answered_upto s earlier (l ∷ lines) (p ∷ replies) answers =
+    let a : Answered = record { asked = l; placed = p } in
+    All-cons (IsPlacedUpTo (length s.updates)) a (answered_lines lines replies) (place_upto s earlier l.line p.at answers.0.order)
+    (answered_upto s (earlier ++ a ∷ []) lines replies answers.1)
 
 -- ---- the run so far
 

@@ -5,6 +5,8 @@ pub mod Longer
 pub mod Growing
 pub mod OneMore
 pub mod Turn
+pub mod PartTurns
+pub mod PartRuns
 pub mod Walk
 pub mod Listings
 pub mod Stopping

@@ -22,7 +22,7 @@ use Rattle.client_run.proofs.Growing.{Running, count_earlier, answered_lines-pus
 
 -- ---- the history grows
 
-Continues-trans : (old mid now : PassView) → Continues old mid → Continues mid now → Continues old now
+pub Continues-trans : (old mid now : PassView) → Continues old mid → Continues mid now → Continues old now
 Continues-trans old mid now c d = record {
   number = d.number ∙ c.number;
   seen = (c.seen.0 ++ d.seen.0, d.seen.1 ∙ ap (λ (us : List Update). us ++ d.seen.0) c.seen.1 ∙ append_assoc old.seen c.seen.0 d.seen.0);
@@ -159,7 +159,7 @@ looked_enough s asked client line at NoSlot old new le looked = omega (arith, le
 -- ---- one answer more
 
 -- one turn more
-in_turn_more : (dir : List (List ℕ)) (earlier : List Answered) (old mid now : PassView) (lines : List RequestLine) (replies : List Placed) (l : RequestLine) (p : Placed)
+pub in_turn_more : (dir : List (List ℕ)) (earlier : List Answered) (old mid now : PassView) (lines : List RequestLine) (replies : List Placed) (l : RequestLine) (p : Placed)
     → AnswersInTurn dir earlier old mid lines replies
     → Answers dir mid now (last_listing (earlier ++ answered_lines lines replies)) (record { asked = l; placed = p })
     → AnswersInTurn dir earlier old now (lines ++ l ∷ []) (replies ++ p ∷ [])

@@ -3,7 +3,7 @@ ghost use Rattle.std.specs.Prelude.{◌≡◌, None, Some, Option, IfOk, OnErr};
 ghost use Rattle.std.specs.Option.{option_copied, option_map, ForSome};
 ghost use Rattle.bucket_terms.specs.declared.request.Request.TheVariants.{List as ListRequest, Next};
 ghost use Rattle.bucket_terms.specs.declared.reply.Reply.{Reply};
-ghost use Rattle.bucket_terms.specs.Listing.{page_point};
+ghost use Rattle.bucket_terms.specs.Listing.{next_token, page_point};
 ghost use Rattle.bucket_terms.specs.PageInRange.{IsInRange};
 ghost use Rattle.bucket_terms.specs.LegalRun.{Resumed, next_of};
 ghost use Rattle.client_run.specs.ClientRun.{answered, Answers, Stopped};
@@ -14,7 +14,7 @@ use crate::listing::list_known;
 use crate::turns::Turn;
 use crate::updates::{answer_at, refused};
 use bucket_terms::{KeyPass, ListQuery, Page, Placed, Reply, Shared, Token, TokenPoint};
-use key_names::{Directory, NoMemory};
+use key_names::{Directory, NoMemory, Text};
 use page_token::TokenError;
 use std::alloc::Global;
 use std::sync::Wait;
@@ -86,13 +86,31 @@ fn behind(
 {
     match page.point(alloc, dir)? {
         Some(point) => {
-            let token = page_token::write(alloc, &point, &query.bound(alloc)?)?;
-            let mut query = query.copy(alloc)?;
-            query.token = token;
+            let query = with_token(alloc, query, &point)?;
             Ok(Some(Resumption { query, point }))
         }
         None => Ok(None),
     }
+}
+
+// The query with the token of a page that ends at this point.
+fn with_token(alloc: Global, query: &ListQuery, point: &TokenPoint) -> Result<ListQuery, NoMemory>
+    ensures { IfOk result (λ next. next ≡ record query.now { token = next_token query.now point.now }) }
+{
+    let token = token_of(alloc, query, point)?;
+    let mut next = query.copy(alloc)?;
+    next.token = token;
+    Ok(next)
+}
+
+// The token of a page of this query that ends at this point.
+fn token_of(alloc: Global, query: &ListQuery, point: &TokenPoint) -> Result<Text, NoMemory>
+    ensures { IfOk result (λ token. token ≡ next_token query.now point.now) }
+{
+    let bound = query.bound(alloc)?;
+    let token = page_token::write(alloc, point, &bound);
+    drop(bound);
+    token
 }
 
 /// Where a LIST begins.
@@ -197,7 +215,9 @@ fn listed<P: KeyPass, Rt: Wait>(
     ensures home { P.home pass.new ≡ P.home pass.old }
 {
     let client = pass.client();
-    let (at, page) = list_known(rt, alloc, pass, turn.known, query.get(), point.as_ref())?;
+    let found = list_known(rt, alloc, pass, turn.known, query.get(), point.as_ref());
+    drop(point);
+    let (at, page) = found?;
     let page = Shared::new(alloc, page)?;
     Ok(answer_at(client, turn.asked.line, at, Reply::Listed { query, page }))
 }

@@ -8,7 +8,7 @@ ghost use Rattle.client_run.specs.Listing.{HasPageInRange};
 ghost use Rattle.client_run.specs.ClientRun.{Answers, RanClient, IsLaterLine, Stopped};
 ghost use Rattle.request_lines.specs.SessionLaws.{IsAskable, Rise};
 
-use crate::hints::Hints;
+use crate::parts::{Progress, run_part};
 use crate::turns::Turn;
 use crate::{Gate, pages, updates, v1_pages};
 use bucket_terms::{KeyPass, Placed, Reply, Request};
@@ -38,27 +38,8 @@ pub fn run_client<P: KeyPass, G: Gate, Rt: Wait>(
     ensures stopped { OnErr result (Stopped (P.view pass.old) (P.view pass.new)) }
     ensures home { P.home pass.new ≡ P.home pass.old }
 {
-    let client = pass.client();
-    let known = known_prefixes(alloc, dir, part)?;
-    let mut replies: Vec<Placed> = Vec::with_capacity(alloc, part.requests.len())?;
-    let mut hints = Hints::none();
-    let mut last = None;
-    for asked in part.requests.as_slice() {
-        let place = replies.len();
-        let hint = hints.at(dir, &part.requests, place);
-        let last_reply = reply_at(&replies, last);
-        let turn = Turn {
-            known: &known,
-            asked,
-            hint,
-            last: last_reply,
-        };
-        gate.before(client, asked.line);
-        let placed = answer(rt, alloc, pass, &turn)?;
-        gate.after(client, asked.line);
-        last = later_listing(last, &asked.request, place);
-        replies.push(placed)?;
-    }
+    let progress = Progress::start(alloc, dir, part)?;
+    let (replies, _) = run_part(rt, alloc, pass, part, progress, part.requests.len(), gate)?;
     Ok(replies)
 }
 

@@ -61,14 +61,16 @@ fn listed_v1<P: KeyPass, Rt: Wait>(
     ensures home { P.home pass.new ≡ P.home pass.old }
 {
     let client = pass.client();
-    let (at, page) = list_known(
+    let found = list_known(
         rt,
         alloc,
         pass,
         turn.known,
         &listing.query,
         listing.point.as_ref(),
-    )?;
+    );
+    drop(listing);
+    let (at, page) = found?;
     let page = Shared::new(alloc, page)?;
     Ok(answer_at(client, turn.asked.line, at, Reply::ListedV1 { query, page }))
 }

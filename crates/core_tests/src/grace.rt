@@ -27,13 +27,21 @@ fn look(alloc: Global, view: &mut View, word: u64) -> Result<(), NoMemory> {
     settle(alloc, view, looks, 2)
 }
 
+/// Looks that find these words, and how many nodes are free after them.
+fn look_at_each(alloc: Global, view: &mut View, words: &[u64]) -> Result<usize, NoMemory> {
+    for word in words {
+        look(alloc, view, *word)?;
+    }
+    Ok(view.free.nodes.len())
+}
+
 /// How many nodes are free after looks that find these words.
 fn free_after(alloc: Global, words: &[u64]) -> Result<usize, NoMemory> {
     let mut view = retiring_view(alloc)?;
-    for word in words {
-        look(alloc, &mut view, *word)?;
-    }
-    Ok(view.free.nodes.len())
+    let free = look_at_each(alloc, &mut view, words);
+    // by this call, the drop of so large a struct is proved quickly
+    drop(view);
+    free
 }
 
 #[test]

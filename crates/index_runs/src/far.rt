@@ -4,6 +4,7 @@ ghost use Rattle.std.specs.Prelude.{◌≡◌};
 ghost use Rattle.index_runs.specs.Runs.{GoesOn, IsClosed};
 
 use crate::gate::{Gates, stay};
+use crate::held::be_held;
 use crate::plan::{Asked, Run};
 use crate::visits::MOST;
 use crate::work::{Event, read, update};
@@ -44,32 +45,8 @@ pub(crate) fn remove_or_look_on<R: Wait>(
     } else if client < run.passes {
         remove_one(rt, alloc, pass, run, gates)
     } else {
-        be_held(rt, alloc, pass, gates)
+        be_held(rt, alloc, pass, KEYS.len(), gates)
     }
-}
-
-/// Opens a snapshot after the puts, and reads it once it is reported that all removals have taken effect.
-fn be_held<R: Wait>(
-    rt: &R,
-    alloc: Global,
-    pass: &mut IndexPass<'_>,
-    gates: &Gates,
-) -> Result<Vec<Event>, AllocError>
-    requires { IsClosed pass.old }
-    ensures { GoesOn pass.old pass.new }
-{
-    let page = KEYS.len();
-    let mut events = Vec::with_capacity(alloc, 1)?;
-    let mut pairs = Vec::with_capacity(alloc, page)?;
-    gates.done.wait_for(1);
-    let at = pass.begin();
-    gates.come.raise();
-    gates.ended.wait_for(1);
-    read(rt, pass, 0, page, &mut pairs);
-    pass.end();
-    gates.gone.raise();
-    events.push(Event::of_all(at, page, pairs))?;
-    Ok(events)
 }
 
 /// Removes its key, once the readers are held.

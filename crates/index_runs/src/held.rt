@@ -25,22 +25,21 @@ pub(crate) fn work_or_be_held<R: Wait>(
     if pass.client() == 0 {
         work_meanwhile(rt, alloc, pass, run, gates)
     } else {
-        be_held(rt, alloc, pass, run, gates)
+        be_held(rt, alloc, pass, run.page as usize, gates)
     }
 }
 
-/// Opens a snapshot after the first requests, and reads it once the updates are made.
-fn be_held<R: Wait>(
+/// Opens a snapshot after the first requests, and reads so many pairs of it once the updates are made.
+pub(crate) fn be_held<R: Wait>(
     rt: &R,
     alloc: Global,
     pass: &mut IndexPass<'_>,
-    run: &Run,
+    page: usize,
     gates: &Gates,
 ) -> Result<Vec<Event>, AllocError>
     requires { IsClosed pass.old }
     ensures { GoesOn pass.old pass.new }
 {
-    let page = run.page as usize;
     let mut events = Vec::with_capacity(alloc, 1)?;
     let mut pairs = Vec::with_capacity(alloc, page)?;
     gates.done.wait_for(1);

@@ -194,27 +194,35 @@ fn seat_of(key: PassKey) -> Seat
     }
 }
 
-/// The keys of two passes.
-fn both(keys: Vec<PassKey>) -> Option<(PassKey, PassKey)>
-    ensures { IfSome result (λ two. keys.items ≡ two.0 ∷ two.1 ∷ []) }
+/// The items of a list of two. What is proved of any type is proved faster: a key has many parts to drop.
+fn both<T: Drop>(items: Vec<T>) -> Option<(T, T)>
+    ensures { IfSome result (λ two. items.items ≡ two.0 ∷ two.1 ∷ []) }
 {
-    let mut keys = keys;
-    let second = keys.pop()?;
-    let first = keys.pop()?;
-    if !keys.is_empty() {
+    let mut items = items;
+    let second = items.pop()?;
+    let first = items.pop()?;
+    if !items.is_empty() {
         return None;
     }
     Some((first, second))
+}
+
+/// The items of a list of four.
+fn all_four<T: Drop>(items: Vec<T>) -> Option<(T, T, T, T)>
+    ensures { IfSome result (λ four. items.items ≡ four.0 ∷ four.1 ∷ four.2 ∷ four.3 ∷ []) }
+{
+    let mut items = items;
+    let d = items.pop()?;
+    let c = items.pop()?;
+    let (a, b) = both(items)?;
+    Some((a, b, c, d))
 }
 
 /// The seats of four keys.
 fn four_of(keys: Vec<PassKey>) -> Option<Four>
     ensures { IfSome result (λ four. keys.items ≡ four.a.key ∷ four.b.key ∷ four.c.key ∷ four.d.key ∷ []) }
 {
-    let mut keys = keys;
-    let d = keys.pop()?;
-    let c = keys.pop()?;
-    let (a, b) = both(keys)?;
+    let (a, b, c, d) = all_four(keys)?;
     Some(Four {
         a: seat_of(a),
         b: seat_of(b),

@@ -20,10 +20,11 @@ use Rattle.core_trees.specs.Search.{end_node, end_side}
 use Rattle.core_events.specs.LoadMoves.{locks}
 use Rattle.core_events.specs.UpdateMoves.{listed_entry}
 use Rattle.core_trees.specs.SpelledTree.{spells}
-use Rattle.core_events.specs.SpelledNow.{child_now, graph_now, tree_now}
+use Rattle.core_events.specs.SpelledNow.{bundle_now, child_now, graph_now, tree_now}
 use Rattle.core_events.specs.declared.tree_move.PlainMove.{PlainMove}
+use Rattle.core_events.specs.declared.tree_move.TreeMove.{TreeMove}
 use Rattle.core_events.specs.PlainWork.{plain_move}
-use Rattle.core_events.specs.TreeMoves.{takes, brings, has_key, is_key, first_slot, new_entries, is_new, tree_after, is_fresh, new_slot, move_at, tree_move, spells_after, is_plain_new, sets_locked, finds_gap, is_plain_step, is_step, is_tree_step}
+use Rattle.core_events.specs.TreeMoves.{takes, brings, has_key, is_key, first_slot, new_entries, node_entries, is_new, tree_after, is_fresh, new_slot, move_at, tree_move, spells_after, is_plain_new, sets_locked, finds_gap, is_plain_step, is_step, is_tree_step}
 use Rattle.machine_spelled.specs.declared.link_plans.LinkPlan.{LinkPlan}
 use Rattle.machine_spelled.specs.LinkPlans.{planned_links, planned_move}
 
@@ -112,3 +113,31 @@ heads_free m v left right added free is heads met =
     own : (e : ℕ) → (e ≡ 0) ⊎ (has e v.free.entries ≡ true) → (e ≡ 0) ⊎ (has e free ≡ true)
     own e (inl none) = inl none
     own e (inr some) = inr (ap (has e) is ∙ some)
+
+-- the entries of two nodes, one after the other
+both_entries : (z : Layout) (m : Memory) (out next : Option ℕ) → node_entries z m (listed out) ++ node_entries z m (listed next) ≡ node_entries z m (listed out ++ listed next)
+both_entries z m None next = refl
+both_entries z m (Some k) next = ap (λ es. es ++ node_entries z m (listed next)) (append-nil (bundle_now z m Left k ++ bundle_now z m Right k))
+
+-- what a raise moves, from its parts
+pub move_is : (z : Layout) (m : Memory) (vs : List View) (v : View) (u : Update) (pending : List ℕ) (t : NamedTree) (slot left right : ℕ) (found out next : Option ℕ) (links : LinkPlan) (move : TreeMove)
+    → pending ≡ v.update.pending → t ≡ tree_now z m vs → slot ≡ child_now m vs (pending ++ []) (end_side u.key Right t) (end_node u.key 0 t)
+    → found ≡ first_slot (brings u.change slot u.key t) → listed out ++ listed next ≡ takes u.change u.key t
+    → listed_entry left ++ listed_entry right ≡ new_entries m found → planned_move u.change links ≡ plain_move m u.change u.key slot t
+    → move.added ≡ found → move.entries ≡ listed_entry left ++ listed_entry right → move.taken ≡ listed out ++ listed next
+    → move.taken_entries ≡ node_entries z m (listed out) ++ node_entries z m (listed next) → move.plain ≡ planned_move u.change links
+    → move ≡ tree_move z m vs v u
+move_is z m vs v u pending t slot left right found out next links move pend tree slots founds takens heads plains added entries taken taken_entries plain =
+    ap (λ a. moved a move.entries move.taken move.taken_entries move.plain) (added ∙ founds)
+    ∙ ap (λ es. moved brought es move.taken move.taken_entries move.plain) (entries ∙ heads ∙ ap (new_entries m) founds)
+    ∙ ap (λ ks. moved brought (new_entries m brought) ks move.taken_entries move.plain) (taken ∙ takens)
+    ∙ ap (λ es. moved brought (new_entries m brought) (takes u.change u.key t) es move.plain) (taken_entries ∙ both_entries z m out next ∙ ap (node_entries z m) takens)
+    ∙ ap (moved brought (new_entries m brought) (takes u.change u.key t) (node_entries z m (takes u.change u.key t))) (plain ∙ plains)
+    ∙ ap (λ (x : ℕ). move_at z m u x t) (slots ∙ ap (λ xs. child_now m vs xs (end_side u.key Right t) (end_node u.key 0 t)) (append-nil pending ∙ pend))
+    ∙ ap (λ (x : NamedTree). move_at z m u (new_slot m vs v u.key x) x) tree
+  where
+    brought : Option ℕ
+    brought = first_slot (brings u.change slot u.key t)
+
+    moved : Option ℕ → List ℕ → List ℕ → List ℕ → PlainMove → TreeMove
+    moved a es ks xs p = record { added = a; entries = es; taken = ks; taken_entries = xs; plain = p }

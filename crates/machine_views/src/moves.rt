@@ -2,8 +2,8 @@
 ghost use Rattle.std.specs.Prelude.{◌≡◌, ◌≤◌, ◌++◌, OnOk, OnErr, IfOk, length, take, Some};
 ghost use Rattle.core_grace.specs.Batches.{apart_from, both, looked};
 ghost use Rattle.core_events.specs.Waits.{looked_by, looked_waiting};
-ghost use Rattle.machine_views.specs.Gains.{with_gain};
-ghost use Rattle.core_events.specs.Moves.{nowhere, entered, left, split_left, split_right, longer, own_number, own_ended, joined_with};
+ghost use Rattle.machine_views.specs.Gains.{with_gain, with_known};
+ghost use Rattle.core_events.specs.Moves.{nowhere, entered, left, split_left, split_right, longer, own_number, own_ended, history_with, joined_with};
 
 use core_grace::{current_looks, drop_slots, look_at, settle};
 use index_words::{EndedPlace, Items, NoMemory, Place, Reading, SeenHistory, Slots, Update, View};
@@ -164,13 +164,19 @@ fn ended_of(alloc: Global, number: Option<u32>, mine: &[u64]) -> Result<Items<En
     }
 }
 
-/// What changes in a view that another one is joined into.
+/// What changes in the history that a view knows, when another view is joined into it.
 #[derive(Drop)]
-pub struct Gained {
+pub(crate) struct Known {
     seen: Items<Update>,
     told: Items<Update>,
     ended: Items<u32>,
     ended_places: Items<EndedPlace>,
+}
+
+/// What changes in a view that another one is joined into.
+#[derive(Drop)]
+pub struct Gained {
+    known: Known,
     to_give: Items<u32>,
     free: Slots,
     retired: Slots,
@@ -221,33 +227,38 @@ fn slots_apart(alloc: Global, slots: &Slots, out: &Slots) -> Result<Slots, NoMem
     Ok(kept)
 }
 
+/// What the history of a view gains from that of another one, which has this number.
+fn known_after(
+    alloc: Global,
+    history: &SeenHistory,
+    number: Option<u32>,
+    other: &SeenHistory,
+) -> Result<Known, NoMemory>
+    ensures { IfOk result (λ known. with_known history.now known ≡ history_with history.now number other.now) }
+{
+    let seen = longer_of(alloc, &history.seen, &other.seen)?;
+    let told = other.seen.copy(alloc)?;
+    let ended = all_ended(alloc, &history.ended, number, &other.ended)?;
+    let ended_places = all_places(alloc, &history.ended_places, number, other)?;
+    Ok(Known {
+        seen,
+        told,
+        ended,
+        ended_places,
+    })
+}
+
 /// What a view gains from another one that is joined into it.
 pub fn gain(alloc: Global, view: &View, other: &View) -> Result<Gained, NoMemory>
     ensures { IfOk result (λ gains. with_gain view.now gains ≡ joined_with view.now other.now) }
 {
-    let seen = longer_of(alloc, &view.history.seen, &other.history.seen)?;
-    let told = other.history.seen.copy(alloc)?;
-    let ended = all_ended(
-        alloc,
-        &view.history.ended,
-        other.number,
-        &other.history.ended,
-    )?;
-    let ended_places = all_places(
-        alloc,
-        &view.history.ended_places,
-        other.number,
-        &other.history,
-    )?;
+    let known = known_after(alloc, &view.history, other.number, &other.history)?;
     let to_give = Items::concat(alloc, view.to_give.as_slice(), other.to_give.as_slice())?;
     let free = Slots::concat(alloc, &view.free, &other.free)?;
     let retired = all_retired(alloc, &view.retired, other)?;
     let unused = slots_apart(alloc, &view.unused, &other.free)?;
     Ok(Gained {
-        seen,
-        told,
-        ended,
-        ended_places,
+        known,
         to_give,
         free,
         retired,
@@ -255,29 +266,24 @@ pub fn gain(alloc: Global, view: &View, other: &View) -> Result<Gained, NoMemory
     })
 }
 
+fn take_known(history: &mut SeenHistory, known: Known)
+    ensures { history.new ≡ with_known history.old known }
+{
+    history.seen = known.seen;
+    history.told = known.told;
+    history.ended = known.ended;
+    history.ended_places = known.ended_places;
+}
+
 /// The view with what it has gained.
 pub fn take_gain(view: &mut View, gains: Gained)
     ensures { view.new ≡ with_gain view.old gains }
 {
-    let Gained {
-        seen,
-        told,
-        ended,
-        ended_places,
-        to_give,
-        free,
-        retired,
-        unused,
-    } = gains;
-    let history = &mut view.history;
-    history.seen = seen;
-    history.told = told;
-    history.ended = ended;
-    history.ended_places = ended_places;
-    view.to_give = to_give;
+    take_known(&mut view.history, gains.known);
     let known = &mut view.reading.filled;
     known.clear();
-    view.free = free;
-    view.retired = retired;
-    view.unused = unused;
+    view.to_give = gains.to_give;
+    view.free = gains.free;
+    view.retired = gains.retired;
+    view.unused = gains.unused;
 }

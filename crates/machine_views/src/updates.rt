@@ -1,5 +1,5 @@
 // The view of a seat after each kind of event of an update.
-ghost use Rattle.std.specs.Prelude.{◌≡◌, ◌+◌, ◌<◌, ◌^◌, OnOk, OnErr, IfOk};
+ghost use Rattle.std.specs.Prelude.{◌≡◌, ◌+◌, ◌-◌, ◌++◌, ◌<◌, ◌^◌, Some as There, OnOk, OnErr, IfOk};
 ghost use Rattle.core_grace.specs.Holds.{listed};
 ghost use Rattle.core_events.specs.UpdateMoves.{without, without_all, prepared, raised_view, finalised};
 ghost use Rattle.machine_views.specs.Gains.{lengthened};
@@ -8,7 +8,7 @@ use crate::loads::hold_head;
 use crate::moves::go_nowhere;
 use core_events::TreeMove;
 use core_events::reads::is_in;
-use index_words::{Items, LoadedHead, NoMemory, Side, Slots, Update, View};
+use index_words::{Items, LoadedHead, NoMemory, SeenHistory, Side, Slots, Update, Updating, View};
 use std::alloc::Global;
 
 fn keep_others(numbers: &mut Vec<u32>, number: u32)
@@ -79,6 +79,20 @@ pub(crate) struct Longer {
     retired: Slots,
 }
 
+/// The slots with these after them.
+fn longer_slots(
+    alloc: Global,
+    slots: &Slots,
+    nodes: &[u32],
+    entries: &[u32],
+) -> Result<Slots, NoMemory>
+    ensures { IfOk result (λ longer. longer ≡ record { nodes = slots.now.nodes ++ nodes.now; entries = slots.now.entries ++ entries.now }) }
+{
+    let nodes = Items::concat(alloc, slots.nodes.as_slice(), nodes)?;
+    let entries = Items::concat(alloc, slots.entries.as_slice(), entries)?;
+    Ok(Slots { nodes, entries })
+}
+
 fn longer_lists(
     alloc: Global,
     view: &View,
@@ -93,17 +107,48 @@ fn longer_lists(
         view.update.pending.as_slice(),
         moved.entries.as_slice(),
     )?;
-    let nodes = Items::concat(alloc, view.retired.nodes.as_slice(), moved.taken.as_slice())?;
-    let entries = Items::concat(
+    let retired = longer_slots(
         alloc,
-        view.retired.entries.as_slice(),
+        &view.retired,
+        moved.taken.as_slice(),
         moved.taken_entries.as_slice(),
     )?;
     Ok(Longer {
         mine,
         pending,
-        retired: Slots { nodes, entries },
+        retired,
     })
+}
+
+/// The history of a view after a raise, with these lists.
+fn note_raise(history: &mut SeenHistory, seen: Items<Update>, mine: Items<u64>)
+    requires left { 0 < history.old.left }
+    ensures { history.new ≡ record history.old { seen = seen; mine = mine; left = history.old.left - 1 } }
+{
+    history.seen = seen;
+    history.mine = mine;
+    history.left -= 1;
+}
+
+/// The free slots without those that a raise brings in.
+fn use_slots(alloc: Global, free: &mut Slots, moved: &TreeMove)
+    ensures { free.new ≡ record { nodes = without_all (listed moved.now.added) free.old.nodes; entries = without_all moved.now.entries free.old.entries } }
+{
+    drop_added(alloc, &mut free.nodes, moved.added);
+    drop_numbers(alloc, &mut free.entries, moved.entries.as_slice());
+}
+
+/// The update of a view after a raise at this place, with these entries without a number.
+fn take_move(update: &mut Updating, place: u64, pending: Items<u32>, moved: TreeMove)
+    ensures { update.new ≡ record update.old { raised = There place; added = moved.added; taken = moved.taken; pending = pending; unset = moved.plain.unset; owed = moved.plain.owed; unlinking = moved.plain.unlinking } }
+{
+    update.raised = Some(place);
+    update.added = moved.added;
+    update.taken = moved.taken;
+    update.pending = pending;
+    update.unset = moved.plain.unset;
+    update.owed = moved.plain.owed;
+    update.unlinking = moved.plain.unlinking;
 }
 
 /// The view after a raise of this update, where `known` is the whole history before it and `stamp` its length.
@@ -129,20 +174,11 @@ pub fn raise(
         pending,
         retired,
     } = longer_lists(alloc, view, place, &moved)?;
-    view.history.seen = seen;
-    view.history.mine = mine;
-    view.history.left -= 1;
+    note_raise(&mut view.history, seen, mine);
     go_nowhere(&mut view.reading);
-    view.update.raised = Some(place);
-    view.update.added = moved.added;
-    view.update.pending = pending;
-    drop_added(alloc, &mut view.free.nodes, moved.added);
-    drop_numbers(alloc, &mut view.free.entries, moved.entries.as_slice());
+    use_slots(alloc, &mut view.free, &moved);
     view.retired = retired;
-    view.update.taken = moved.taken;
-    view.update.unset = moved.plain.unset;
-    view.update.owed = moved.plain.owed;
-    view.update.unlinking = moved.plain.unlinking;
+    take_move(&mut view.update, place, pending, moved);
     Ok(())
 }
 

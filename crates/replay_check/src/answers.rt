@@ -221,12 +221,27 @@ fn of_v1(
     ensures page { IfOk result (λ reply. reply ≡ ListedV1 query.now (v1_page dir.now query.now map.now)) }
     ensures in_range { IfOk result (HasPageInRange dir.now) }
 {
-    let asked = query.get();
-    let plain = plain_query(alloc, asked)?;
-    let point = point_of(alloc, asked)?;
+    let page = Shared::new(alloc, v1_page_from(alloc, map, dir, query.get())?)?;
     let query = query.share()?;
-    let page = Shared::new(alloc, page_from(alloc, dir, map, &plain, point.as_ref())?)?;
     Ok(Reply::ListedV1 { query, page })
+}
+
+// The page of a query of version 1.
+fn v1_page_from(
+    alloc: Global,
+    map: &ReplayMap,
+    dir: &Directory,
+    query: &V1Query,
+) -> Result<Page, NoMemory>
+    ensures page { IfOk result (λ page. page ≡ v1_page dir.now query.now map.now) }
+    ensures in_range { IfOk result (IsInRange dir.now) }
+{
+    let point = point_of(alloc, query)?;
+    let plain = plain_query(alloc, query)?;
+    let page = page_from(alloc, dir, map, &plain, point.as_ref());
+    // Dropped here by a call, so that the proof has its fields once and not at each way out.
+    drop(plain);
+    page
 }
 
 // The page of a query from a point on, by one look for each entry.

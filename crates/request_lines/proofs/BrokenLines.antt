@@ -92,7 +92,7 @@ module _ (bytes : List ℕ) (len : ℕ) (valid : IsValidUpTo bytes len) where
   -- the lines before that line feed are UTF-8, and the next one is not
   pub first_lines : (lines : Option (Bor (List ℕ))) → IsLastByte (is_byte 10) (take len bytes) (option_map (λ (l : Bor (List ℕ)). length l.now) lines)
       → IfSome lines (λ (l : Bor (List ℕ)). l.now ≡ take (length l.now) (take len bytes)) → AreFirst lines (texts_of bytes) (Some NotUtf8)
-  first_lines None last front = record { behind = texts_of bytes; all = refl; stops = stops_broken bytes (broken_from 0 (omega arith) IsUtf8-nil last) }
+  first_lines None last front = record { after = texts_of bytes; all = refl; stops = stops_broken bytes (broken_from 0 (omega arith) IsUtf8-nil last) }
   first_lines (Some l) last front =
       let end = length l.now in
       let short = valid.short in
@@ -103,7 +103,7 @@ module _ (bytes : List ℕ) (len : ℕ) (valid : IsValidUpTo bytes len) where
       let same : l.now ≡ take end bytes = front ∙ take-take end len bytes (omega (arith, inside)) in
       let before : IsUtf8 (take end bytes) = subst IsUtf8 (take-take end len bytes (omega (arith, inside))) (utf8_before (take len bytes) end valid.front last) in
       record {
-        behind = texts_of (drop (end + 1) bytes);
+        after = texts_of (drop (end + 1) bytes);
         all = texts_cut_at bytes end (omega (arith, inside, short)) feed ∙ ap (λ (front : List ℕ). texts_of front ++ texts_of (drop (end + 1) bytes)) (sym same);
         stops = stops_broken (drop (end + 1) bytes) (broken_from (end + 1) (omega (arith, inside)) (utf8_more bytes end (omega (arith, inside, short)) (omega (arith, feed)) before) last.0.after);
       }

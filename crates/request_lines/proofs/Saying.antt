@@ -41,6 +41,6 @@ said_next texts left rest lines text commands is cut said =
 -- ---- the first lines of others
 
 pub first_cut : (lines : Option (Bor (List ℕ))) (texts front left : List (List ℕ)) (cause : Option Cause) → (are : AreFirst lines texts cause) → texts_left lines ≡ front ++ left
-    → texts ≡ front ++ (left ++ are.behind)
+    → texts ≡ front ++ (left ++ are.after)
 first_cut lines texts front left cause are cut =
-    are.all ∙ ap (λ (all : List (List ℕ)). all ++ are.behind) cut ∙ append_assoc front left are.behind
+    are.all ∙ ap (λ (all : List (List ℕ)). all ++ are.after) cut ∙ append_assoc front left are.after

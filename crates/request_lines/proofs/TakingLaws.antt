@@ -114,15 +114,15 @@ say_at (t ∷ texts) (c ∷ commands) (suc i) d e say lt = say_at texts commands
 
 -- there is a line for each command, and one more where a cause was found
 pub says_few : (texts : List (List ℕ)) (said : Said) → Says texts said → length said.commands.items ≤ length texts
-says_few texts said says = omega (arith, ap length says.all, length-append says.front says.behind, say_length says.front said.commands.items says.commands)
+says_few texts said says = omega (arith, ap length says.all, length-append says.front says.after, say_length says.front said.commands.items says.commands)
 
 pub says_fewer : (texts : List (List ℕ)) (said : Said) (cause : Cause) → Says texts said → said.cause ≡ Some cause → length said.commands.items < length texts
 says_fewer texts said cause says is =
-    omega (arith, ap length says.all, length-append says.front says.behind, say_length says.front said.commands.items says.commands, some_behind says.behind said.cause is says.cause)
+    omega (arith, ap length says.all, length-append says.front says.after, say_length says.front said.commands.items says.commands, some_after says.after said.cause is says.cause)
   where
-    some_behind : (behind : List (List ℕ)) (o : Option Cause) → o ≡ Some cause → StopsAt behind o → 0 < length behind
-    some_behind [] o is stops = cc
-    some_behind (text ∷ texts) o is stops = omega arith
+    some_after : (behind : List (List ℕ)) (o : Option Cause) → o ≡ Some cause → StopsAt behind o → 0 < length behind
+    some_after [] o is stops = cc
+    some_after (text ∷ texts) o is stops = omega arith
 
 -- ---- lines that are taken part by part
 
@@ -195,23 +195,23 @@ module _ {p q : Progress} {before number : ℕ} (after : Progress) (front behind
 -- all of them were taken
 module _ (p q : Progress) (before number i : ℕ) (texts : List (List ℕ)) (said : Said) (says : Says texts said) (all : i ≡ length said.commands.items)
     (taken : (front behind : List (List ℕ)) → SayInTurn front said.commands.items → AreTakenUpTo p before (front ++ behind) (drop i front ++ behind) number q) where
-  left : AreTakenUpTo p before texts says.behind number q
+  left : AreTakenUpTo p before texts says.after number q
   left =
       let none = drop_all i says.front (omega (arith, all, say_length says.front said.commands.items says.commands)) in
-      let whole = subst (λ (lines : List (List ℕ)). AreTakenUpTo p before (says.front ++ says.behind) (lines ++ says.behind) number q) none (taken says.front says.behind says.commands) in
-      subst (λ (ts : List (List ℕ)). AreTakenUpTo p before ts says.behind number q) (sym says.all) whole
+      let whole = subst (λ (lines : List (List ℕ)). AreTakenUpTo p before (says.front ++ says.after) (lines ++ says.after) number q) none (taken says.front says.after says.commands) in
+      subst (λ (ts : List (List ℕ)). AreTakenUpTo p before ts says.after number q) (sym says.all) whole
 
   -- and there are no more
   pub takes_all : said.cause ≡ None → TakesAll p before texts q (Ok number)
-  takes_all none = at_end says.behind left (subst (StopsAt says.behind) none says.cause)
+  takes_all none = at_end says.after left (subst (StopsAt says.after) none says.cause)
     where
       at_end : (behind : List (List ℕ)) → AreTakenUpTo p before texts behind number q → StopsAt behind None → TakesAll p before texts q (Ok number)
       at_end [] left stops = taken_end p q before texts number left
       at_end (t ∷ behind) left stops = elim stops [ ]
 
   -- or the next one has a cause of its own
-  pub stops_behind : (after : Progress) (cause : Cause) → said.cause ≡ Some cause → TakesAll p before texts after (Err (session_error (number + 1) (faults.Faulty cause)))
-  stops_behind after cause is = at_end says.behind left (subst (StopsAt says.behind) is says.cause)
+  pub stops_after : (after : Progress) (cause : Cause) → said.cause ≡ Some cause → TakesAll p before texts after (Err (session_error (number + 1) (faults.Faulty cause)))
+  stops_after after cause is = at_end says.after left (subst (StopsAt says.after) is says.cause)
     where
       at_end : (behind : List (List ℕ)) → AreTakenUpTo p before texts behind number q → StopsAt behind (Some cause) → TakesAll p before texts after (Err (session_error (number + 1) (faults.Faulty cause)))
       at_end [] left here = cc

@@ -9,17 +9,17 @@ use Rattle.request_lines.specs.declared.leads.Numbered.{Numbered}
 
 -- the names at these places of a list
 abbrev pub named : List (List ℕ) → List ℕ → List (List ℕ)
-named distinct order = map (name_at distinct) order
+named kept order = map (name_at kept) order
 
 -- the places are the list's, and each of its names stands at one of them
-pub record IsInterned (distinct : List (List ℕ)) (order : List ℕ) : Type 0 where
-  pub below : All (λ place. place < length distinct) order
-  pub used : (name : List ℕ) → Contains distinct name → Contains (named distinct order) name
+pub record IsInterned (kept : List (List ℕ)) (order : List ℕ) : Type 0 where
+  pub below : All (λ place. place < length kept) order
+  pub used : (name : List ℕ) → Contains kept name → Contains (named kept order) name
 
--- the names of the lines, in their order: of distinct ones with their places, or of a list that has one for each line
+-- the names of the lines, in their order: of those that are kept with their places, or of a list that has one for each line
 abbrev pub names_kept : List (List ℕ) → Option (List ℕ) → List (List ℕ)
 names_kept names None = names
-names_kept distinct (Some order) = named distinct order
+names_kept kept (Some order) = named kept order
 
 -- where there are places, they are those of the names; and of no more lines than a directory has names at most
 pub record AreKept (names : List (List ℕ)) (order : Option (List ℕ)) : Type 0 where
@@ -35,31 +35,22 @@ pub record IsKnownAs (old new : List (List ℕ)) (name : List ℕ) (number : ℕ
 abbrev pub number_in : Numbered → ℕ
 number_in entry = entry.number
 
--- the name of the entry's number
-abbrev pub name_of : List (List ℕ) → Numbered → List ℕ
-name_of names entry = name_at names entry.number
-
--- the numbers of the entries are all numbers below their count
-pub record HaveNumbers (entries : List Numbered) : Type 0 where
-  pub below : All (λ (e : Numbered). e.number < length entries) entries
-  pub all : (number : ℕ) → number < length entries → Contains (map number_in entries) number
-
--- equal names stand together: for each entry the place of its name among the distinct ones
-pub record AreGroups (names : List (List ℕ)) (entries : List Numbered) (distinct : List (List ℕ)) (groups : List ℕ) : Type 0 where
-  pub interned : IsInterned distinct groups
-  pub are : named distinct groups ≡ map (name_of names) entries
-
 -- each number of a name stands here once
 abbrev pub AreNumbered : List (List ℕ) → List Numbered → Type 0
 AreNumbered names entries = IsPermutation (range_with_len 0 (length names)) (map number_in entries)
 
--- at the rank that a number has stands the entry of this number
-pub record AreRanks (entries : List Numbered) (ranks : List ℕ) : Type 0 where
-  pub same_length : length ranks ≡ length entries
-  pub below : (number : ℕ) → number < length entries → slice_index ranks number < length entries
-  pub is : (number : ℕ) → number < length entries → slice_index (map number_in entries) (slice_index ranks number) ≡ number
+-- the names were moved: for each number the place where its name stands now, and for each place the number of its name
+pub record AreMoved (names moved : List (List ℕ)) (places numbers : List ℕ) : Type 0 where
+  pub names_count : length moved ≡ length names
+  pub places_count : length places ≡ length names
+  pub numbers_count : length numbers ≡ length names
+  pub place : (number : ℕ) → number < length names → slice_index places number < length names
+  pub number : (place : ℕ) → place < length names → slice_index numbers place < length names
+  pub number_at : (number : ℕ) → number < length names → slice_index numbers (slice_index places number) ≡ number
+  pub place_of : (place : ℕ) → place < length names → slice_index places (slice_index numbers place) ≡ place
+  pub is : (number : ℕ) → number < length names → name_at moved (slice_index places number) ≡ name_at names number
 
--- the names by their places among the distinct ones
-pub record IsRankedBy (names : List (List ℕ)) (distinct : List (List ℕ)) (ranks : List ℕ) : Type 0 where
-  pub interned : IsInterned distinct ranks
-  pub are : named distinct ranks ≡ names
+-- the names by their places among those that are kept
+pub record IsRankedBy (names : List (List ℕ)) (kept : List (List ℕ)) (ranks : List ℕ) : Type 0 where
+  pub interned : IsInterned kept ranks
+  pub are : named kept ranks ≡ names

@@ -39,17 +39,17 @@ StopsAt (text ∷ texts) (Some cause) = said_of text ≡ Some (Err cause)
 
 -- these lines are the first of the texts, and after them there are no more, or the next one has this cause of its own
 pub record AreFirst (lines : Option (Bor (List ℕ))) (texts : List (List ℕ)) (cause : Option Cause) : Type 0 where
-  pub behind : List (List ℕ)
-  pub all : texts ≡ texts_left lines ++ behind
-  pub stops : StopsAt behind cause
+  pub after : List (List ℕ)
+  pub all : texts ≡ texts_left lines ++ after
+  pub stops : StopsAt after cause
 
 -- the lines say this, up to the first that has a cause of its own
 pub record Says (texts : List (List ℕ)) (said : Said) : Type 0 where
   pub front : List (List ℕ)
-  pub behind : List (List ℕ)
-  pub all : texts ≡ front ++ behind
+  pub after : List (List ℕ)
+  pub all : texts ≡ front ++ after
   pub commands : SayInTurn front said.commands.items
-  pub cause : StopsAt behind said.cause
+  pub cause : StopsAt after said.cause
 
 -- the lines of these blocks
 abbrev pub texts_in : List (Bor (List ℕ)) → List (List ℕ)

@@ -8,8 +8,8 @@ ghost use Rattle.request_lines.specs.SampleSession.{most_sample_requests};
 ghost use Rattle.request_lines.specs.SessionLaws.{HasNames, HasRequests, HasLines, IsSmall};
 
 use crate::interner::Interner;
-use crate::reader::session_of;
 use crate::sample::{CLIENTS, push_name};
+use crate::unsorted::UnsortedSession;
 use crate::{Asked, ClientPart, Requests, Session};
 use bucket_terms::{ListQuery, Record, Request, Shared};
 use key_names::{NoMemory, Text};
@@ -44,7 +44,7 @@ pub fn sample_session(alloc: Global, n: u32) -> Result<Session, NoMemory>
         let requests = generated.client(alloc, n, client)?;
         parts.push(ClientPart { requests })?;
     }
-    session_of(alloc, parts, generated.names, generated.records)
+    UnsortedSession::of(parts, generated.names, generated.records).sorted(alloc)
 }
 
 /// The names and records of the requests so far.

@@ -1,18 +1,19 @@
-// Names as they are read: most that come again are not kept again, and after the last line each distinct one is kept
-// once.
-ghost use Rattle.std.specs.Prelude.{◌≡◌, ◌<◌, ◌≤◌, ◌++◌, ◌∷◌, [], length, map, All, IfOk, OnOk, OnErr, IsOkUnless, replicate, slice_index};
+// Names as they are read: most that come again are not kept again. After the last line they are put in byte order.
+ghost use Rattle.std.specs.Prelude.{◌≡◌, ◌<◌, ◌≤◌, ◌++◌, ◌∷◌, [], length, map, All, IfOk, OnOk, OnErr, IsOkUnless, slice_index};
 ghost use Rattle.key_names.specs.Ranks.{most_names};
 ghost use Rattle.line_grammar.specs.declared.line_error.LineError.TheVariants.{NoMemory as OutOfMemory};
-ghost use Rattle.request_lines.specs.Interned.{AreGroups, AreRanks, HaveNumbers, IsKnownAs, IsRankedBy};
+ghost use Rattle.request_lines.specs.Interned.{AreNumbered, IsInterned, IsKnownAs, named};
 
 use crate::known::Known;
-use crate::leads::{Numbered, sorted};
+use crate::leads::{Numbered, sorted, sorted_on_threads};
 use crate::name_hints::{NameHint, if_kept_as};
 use crate::names::Names;
+use crate::placing::{put_in_order, ranks_of};
 use key_names::{NoMemory, Text};
 use line_grammar::LineError;
 use std::alloc::{AllocError, Global};
 use std::marker::Model;
+use std::thread::Threads;
 
 /// The names of the lines so far.
 ///
@@ -107,7 +108,7 @@ impl Interner {
         Ok(number)
     }
 
-    /// The names of all lines, with the distinct ones in byte order, and the rank of each number.
+    /// The names of all lines, with those that are kept in byte order, and the rank of each number.
     pub(crate) fn ranked(self, alloc: Global) -> Result<(Names, Vec<usize>), NoMemory>
         requires { length self ≤ most_names }
         ensures { IfOk result (λ names. names.0 ≡ self) }
@@ -117,10 +118,46 @@ impl Interner {
             order,
             known: _,
         } = self;
-        let (distinct, ranks) = by_ranks(alloc, names.as_slice())?;
-        let order = at_places(alloc, &order, &ranks)?;
-        Ok((Names::of(distinct, order), ranks))
+        let entries = sorted(alloc, names.as_slice())?;
+        ranked_by(alloc, names, order.as_slice(), entries.as_slice())
     }
+
+    /// As `ranked`. Many names are sorted on threads.
+    pub(crate) fn ranked_on_threads<Rt: Threads + Sync>(
+        self,
+        rt: &Rt,
+        alloc: Global,
+    ) -> Result<(Names, Vec<usize>), NoMemory>
+        requires { length self ≤ most_names }
+        ensures { IfOk result (λ names. names.0 ≡ self) }
+    {
+        let Interner {
+            names,
+            order,
+            known: _,
+        } = self;
+        let entries = sorted_on_threads(rt, alloc, names.as_slice())?;
+        ranked_by(alloc, names, order.as_slice(), entries.as_slice())
+    }
+}
+
+// The names of the lines that have these numbers, and the rank of each number. The entries are the numbers in the byte
+// order of the names.
+fn ranked_by(
+    alloc: Global,
+    mut names: Vec<Text>,
+    order: &[usize],
+    entries: &[Numbered],
+) -> Result<(Names, Vec<usize>), NoMemory>
+    requires interned { IsInterned names.items order.now }
+    requires few { length order.now ≤ most_names }
+    requires numbered { AreNumbered names.items entries.now }
+    ensures { IfOk result (λ ranked. ranked.0 ≡ named names.items order.now) }
+{
+    let places = put_in_order(alloc, &mut names, entries)?;
+    let ranks = ranks_of(alloc, &names, entries)?;
+    let order = at_places(alloc, order, &places)?;
+    Ok((Names::of(names, order), ranks))
 }
 
 // The number of a name: that of the hint or the one that the table knows, where an equal name has it, or else the next
@@ -165,103 +202,14 @@ fn known_or_next(
     Ok(count)
 }
 
-// The distinct ones of these names, in byte order, and the rank of each.
-fn by_ranks(alloc: Global, names: &[Text]) -> Result<(Vec<Text>, Vec<usize>), NoMemory>
-    ensures { IfOk result (λ found. IsRankedBy names.now found.0.items found.1.items) }
+// The places of these numbers.
+fn at_places(alloc: Global, numbers: &[usize], places: &[usize]) -> Result<Vec<usize>, AllocError>
+    requires { All (λ number. number < length places.now) numbers.now }
+    ensures { IfOk result (λ found. found.items ≡ map (slice_index places.now) numbers.now) }
 {
-    let entries = sorted(alloc, names)?;
-    let places = places_of(alloc, &entries)?;
-    let (distinct, groups) = grouped(alloc, names, &entries)?;
-    let ranks = at_places(alloc, &places, &groups)?;
-    Ok((distinct, ranks))
-}
-
-// This many names are looked at before the first of them is kept. Each may lie anywhere in memory, and the waits for
-// them then overlap.
-const AHEAD: usize = 16;
-
-// The distinct names of the entries, in their order, and for each entry the place of its name among them.
-fn grouped(
-    alloc: Global,
-    names: &[Text],
-    entries: &[Numbered],
-) -> Result<(Vec<Text>, Vec<usize>), NoMemory>
-    requires { All (λ (e : Numbered). e.number < length names.now) entries.now }
-    ensures { IfOk result (λ found. AreGroups names.now entries.now found.0.items found.1.items) }
-{
-    let mut distinct = Vec::with_capacity(alloc, entries.len())?;
-    let mut groups = Vec::with_capacity(alloc, entries.len())?;
-    let mut lens = [0; AHEAD];
-    for (place, entry) in entries.iter().enumerate() {
-        if place % AHEAD == 0 {
-            lens = lens_from(names, entries, place);
-        }
-        let len = lens[place % AHEAD];
-        let group = group_of(alloc, &mut distinct, &names[entry.number], len)?;
-        groups.push(group)?;
+    let mut found = Vec::with_capacity(alloc, numbers.len())?;
+    for number in numbers {
+        found.push(places[*number])?;
     }
-    Ok((distinct, groups))
-}
-
-// How many bytes the names of the entries from this place on have.
-fn lens_from(names: &[Text], entries: &[Numbered], first: usize) -> [usize; AHEAD] {
-    let mut lens = [0; AHEAD];
-    for ahead in 0..AHEAD {
-        if let Some(entry) = entries.get(first.saturating_add(ahead)) {
-            lens[ahead] = names.get(entry.number).map_or(0, |name| name.bytes().len());
-        }
-    }
-    lens
-}
-
-// The place of a name among the distinct ones, which it joins where it is not the last one. It has so many bytes.
-fn group_of(
-    alloc: Global,
-    distinct: &mut Vec<Text>,
-    name: &Text,
-    len: usize,
-) -> Result<usize, NoMemory>
-    ensures { IfOk result (IsKnownAs distinct.old.items distinct.new.items name.now) }
-{
-    let count = distinct.len();
-    if 0 < count {
-        let last = distinct[count - 1].bytes();
-        if last.len() == len && last == name.bytes() {
-            return Ok(count - 1);
-        }
-    }
-    distinct.push(name.copy(alloc)?)?;
-    Ok(count)
-}
-
-// For each number the place at which it stands.
-fn places_of(alloc: Global, entries: &[Numbered]) -> Result<Vec<usize>, AllocError>
-    requires { HaveNumbers entries.now }
-    ensures { IfOk result (λ places. AreRanks entries.now places.items) }
-{
-    let count = entries.len();
-    let mut places = no_places(alloc, count)?;
-    for (place, entry) in entries.iter().enumerate() {
-        places[entry.number] = place;
-    }
-    Ok(places)
-}
-
-// So many numbers without a place: the count is no place.
-fn no_places(alloc: Global, count: usize) -> Result<Vec<usize>, AllocError>
-    ensures { IfOk result (λ places. places.items ≡ replicate count count) }
-{
-    vec![in alloc; count; count]
-}
-
-// The groups at these places.
-fn at_places(alloc: Global, places: &[usize], groups: &[usize]) -> Result<Vec<usize>, AllocError>
-    requires { All (λ place. place < length groups.now) places.now }
-    ensures { IfOk result (λ ranks. ranks.items ≡ map (slice_index groups.now) places.now) }
-{
-    let mut ranks = Vec::with_capacity(alloc, places.len())?;
-    for place in places {
-        ranks.push(groups[*place])?;
-    }
-    Ok(ranks)
+    Ok(found)
 }

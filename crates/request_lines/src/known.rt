@@ -62,9 +62,9 @@ impl Known {
 pub(crate) fn hash_of(name: &Text) -> u64 {
     let mut hasher = FoldHasher::default();
     let mut rest = name.bytes();
-    'words: while let Some((word, behind)) = rest.split_first_chunk::<8>() {
+    'words: while let Some((word, after)) = rest.split_first_chunk::<8>() {
         hasher.write_u64(u64::from_le_bytes(*word));
-        rest = behind;
+        rest = after;
     }
     hasher.write(rest);
     hasher.finish()

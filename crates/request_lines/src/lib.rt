@@ -15,6 +15,7 @@ mod limits;
 mod lines;
 mod name_hints;
 mod names;
+mod placing;
 mod read;
 mod read_on_threads;
 mod reader;
@@ -26,6 +27,7 @@ mod sample;
 mod session;
 mod session_error;
 mod taking;
+mod unsorted;
 
 pub use check_input::{CheckInput, line_len, read_check_input};
 pub use generated::sample_session;

@@ -1,4 +1,4 @@
-// The names of a session's lines, each kept once where the session was read.
+// The names of a session's lines. Where the session was read, most that come again are kept once.
 ghost use Rattle.std.specs.Prelude.{◌≡◌, ◌<◌, ◌≤◌, ℕ, List, [], length, All, IfOk, IfErr};
 ghost use Rattle.key_names.specs.Names.{HoldsEachOnce, IsFine, name_at};
 ghost use Rattle.key_names.specs.Ranks.{most_names};
@@ -14,9 +14,9 @@ use std::mem;
 /// directory can have them. Contracts see the list of them.
 #[derive(Debug, Drop)]
 pub struct Names {
-    // With `order` the distinct names, in byte order; without it a name for each line.
+    // With `order` the names that are kept, in byte order; without it a name for each line.
     names: Vec<Text>,
-    // For each line its name's place among the distinct ones.
+    // For each line its name's place among those that are kept.
     order: Option<Items<usize>>,
 }
 
@@ -67,14 +67,14 @@ impl Names {
         }
     }
 
-    /// The names with these places among the distinct ones.
-    pub(crate) fn of(distinct: Vec<Text>, order: Vec<usize>) -> Names
-        requires interned { IsInterned distinct.items order.items }
+    /// The names with these places among those that are kept.
+    pub(crate) fn of(kept: Vec<Text>, order: Vec<usize>) -> Names
+        requires interned { IsInterned kept.items order.items }
         requires few { length order.items ≤ most_names }
-        ensures { result ≡ named distinct.items order.items }
+        ensures { result ≡ named kept.items order.items }
     {
         Names {
-            names: distinct,
+            names: kept,
             order: Some(Items::from_vec(order)),
         }
     }
@@ -119,7 +119,7 @@ impl Names {
         directory_of(names)
     }
 
-    /// The same, and the names stay: each distinct one is copied.
+    /// The same, and the names stay: each that is kept is copied.
     pub fn directory(&self, alloc: Global) -> Result<Directory, NoMemory>
         requires { All IsFine self.now }
         ensures { IfOk result (HoldsEachOnce self.now) }

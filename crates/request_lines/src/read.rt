@@ -5,6 +5,7 @@ ghost use Rattle.request_lines.specs.Refusal.{IsRefused};
 ghost use Rattle.request_lines.specs.SessionLaws.{HasNames, HasRecords, HasRequests, HasLines, IsSmall};
 
 use crate::reader::Reader;
+use crate::unsorted::UnsortedSession;
 use crate::{Session, SessionError};
 use std::alloc::Global;
 
@@ -27,7 +28,23 @@ pub fn read_session(alloc: Global, bytes: &[u8]) -> Result<Session, SessionError
     ensures lines { IfOk result HasLines }
     ensures small { IfOk result IsSmall }
 {
+    Ok(read_lines(alloc, bytes)?.sorted(alloc)?)
+}
+
+/// The same, and the names are still to be sorted.
+pub(crate) fn read_lines(alloc: Global, bytes: &[u8]) -> Result<UnsortedSession, SessionError>
+    requires { length bytes.now ≤ most_input_bytes }
+    ensures session { IfOk result (IsSessionOf bytes.now) }
+    ensures refused { IsRefused bytes.now result }
+
+    // What the layers above need of every session.
+    ensures names { IfOk result HasNames }
+    ensures records { IfOk result HasRecords }
+    ensures requests { IfOk result HasRequests }
+    ensures lines { IfOk result HasLines }
+    ensures small { IfOk result IsSmall }
+{
     let mut reader = Reader::new(alloc);
     reader.take_in_turn(alloc, bytes)?;
-    reader.finish(alloc)
+    reader.finish()
 }

@@ -1,6 +1,5 @@
 // What is kept of the lines so far.
 ghost use Rattle.std.specs.Prelude.{◌≡◌, ◌≤◌, ℕ, List, ◌∷◌, [], ◌++◌, length, Ok, OnOk, IfOk, IsOkUnless};
-ghost use Rattle.key_names.specs.Ranks.{most_names};
 ghost use Rattle.line_grammar.specs.declared.line_error.LineError.TheVariants.{NoMemory as OutOfMemory};
 ghost use Rattle.request_lines.specs.declared.session_error.SessionError.TheVariants.{NoMemory as NoSession};
 ghost use Rattle.request_lines.specs.Counting.{IsWithin, counted};
@@ -16,10 +15,10 @@ ghost use Rattle.request_lines.specs.SessionLaws.{HasNames, HasRecords, HasReque
 use crate::counts::Counts;
 use crate::interner::Interner;
 use crate::name_hints::NameHint;
-use crate::{Asked, ClientPart, InputError, Requests, Session, SessionError};
+use crate::unsorted::UnsortedSession;
+use crate::{Asked, ClientPart, InputError, Requests, SessionError};
 use bucket_terms::{Record, Request};
-use key_map::Items;
-use key_names::{NoMemory, Text};
+use key_names::Text;
 use line_grammar::{Command, LineError, PutWhen};
 use std::alloc::Global;
 use std::mem;
@@ -178,8 +177,8 @@ impl Reader {
         Ok(())
     }
 
-    /// The session of an input of which all lines were taken.
-    pub(crate) fn finish(self, alloc: Global) -> Result<Session, SessionError>
+    /// The session of an input of which all lines were taken. Its names are still to be sorted.
+    pub(crate) fn finish(self) -> Result<UnsortedSession, SessionError>
         requires within { IsWithin self.counts }
         requires taken { (bytes : List ℕ) × HasTaken bytes (progress self) }
         ensures session { (bytes : List ℕ) → HasTaken bytes (progress self) → IfOk result (IsSessionOf bytes) }
@@ -192,11 +191,11 @@ impl Reader {
         ensures lines { IfOk result HasLines }
         ensures small { IfOk result IsSmall }
     {
-        self.kept_session(alloc)
+        self.kept_session()
     }
 
     // The session of what is kept of the lines so far.
-    fn kept_session(self, alloc: Global) -> Result<Session, SessionError>
+    fn kept_session(self) -> Result<UnsortedSession, SessionError>
         requires { length self.names ≤ most_requests }
         ensures clients { IfOk result (λ s. s.clients ≡ all_ended (progress self)) }
         ensures names { IfOk result (λ s. s.names ≡ self.names) }
@@ -214,29 +213,8 @@ impl Reader {
         if 0 < counts.clients {
             ended.push(ClientPart { requests: current })?;
         }
-        Ok(session_of(alloc, ended, names, records)?)
+        Ok(UnsortedSession::of(ended, names, records))
     }
-}
-
-/// The session with these parts, whose names have their numbers, these names and these records.
-pub(crate) fn session_of(
-    alloc: Global,
-    mut parts: Vec<ClientPart>,
-    names: Interner,
-    records: Vec<Record>,
-) -> Result<Session, NoMemory>
-    requires { length names ≤ most_names }
-    ensures clients { IfOk result (λ s. s.clients ≡ parts.items) }
-    ensures names { IfOk result (λ s. s.names ≡ names) }
-    ensures records { IfOk result (λ s. s.records ≡ records.items) }
-{
-    let (names, ranks) = names.ranked(alloc)?;
-    rank_names(&mut parts, &ranks);
-    Ok(Session {
-        clients: Items::from_vec(parts),
-        names,
-        records: Items::from_vec(records),
-    })
 }
 
 /// The error of a session whose line of this number is not read.
@@ -261,14 +239,5 @@ fn put_request(when: PutWhen, name: Text, val: u64) -> Request
     match when {
         PutWhen::Always => Request::Put { name, val },
         PutWhen::IfAbsent => Request::PutNew { name, val },
-    }
-}
-
-// Puts the ranks of the names in place of their numbers.
-fn rank_names(parts: &mut [ClientPart], ranks: &[usize])
-    ensures { parts.new ≡ parts.old }
-{
-    for place in 0..parts.len() {
-        parts[place].requests.rank_names(ranks);
     }
 }

@@ -1,5 +1,6 @@
 //! A pass of the index at work.
-ghost use Rattle.std.specs.Prelude.{◌≡◌, ◌↔◌, ℕ, None, Some, IsSome, IfOk, OnErr, IsErrOf};
+ghost use Rattle.std.specs.Prelude.{◌≡◌, ◌<◌, ◌↔◌, ℕ, All, None, Some, IsSome, IfOk, OnErr, IsErrOf};
+ghost use Rattle.key_map.specs.declared.update.Update.{Update};
 ghost use Rattle.key_map.specs.History.{after};
 ghost use Rattle.key_map.specs.Map.{first_from};
 ghost use Rattle.bucket_terms.specs.PassView.{MadePut};
@@ -51,6 +52,14 @@ impl<'t> IndexPass<'t> {
         ensures same { result ≡ self.entry }
     {
         self.pass.detach()
+    }
+
+    /// Each update that the pass has seen is one of a pass of the index: of one whose number is below their count. The
+    /// call does nothing.
+    pub fn clients_fact(&self)
+        ensures { All (λ (u : Update). u.client < self.now.view.layout.passes) (shown self.now).seen }
+    {
+        self.pass.facts();
     }
 
     /// Makes a note of what the pass has seen. The pass is unchanged. It takes no memory and never waits.

@@ -67,8 +67,23 @@ fn moves<P: TestedPass, R: Wait>(
 
 const FIRST: [Row; 1] = [Row::Put(1, 5, 50, Ok(Done { at: 1, was: false }))];
 
-/// The same, on a table of two passes in which the other one has put key 5.
-fn moves_behind_put<R: Wait>(
+/// The same, once the other pass has put key 5.
+fn moves_behind_put<P: TestedPass, R: Wait>(
+    rt: &R,
+    alloc: Global,
+    pass: &mut TablePass<'_>,
+    other: &mut P,
+    key: u64,
+    rows: &[Row],
+) -> bool
+    requires rest { AtRest pass.old.view }
+    requires other { AtRest (P.view other.old) }
+{
+    have_answers(rt, alloc, other, &FIRST) && moves(rt, alloc, pass, other, key, rows)
+}
+
+/// The same, on a table of two passes.
+fn moves_on_a_table<R: Wait>(
     rt: &R,
     alloc: Global,
     key: u64,
@@ -76,10 +91,11 @@ fn moves_behind_put<R: Wait>(
 ) -> Result<bool, NoMemory> {
     let (table, first, second) = two_passes(alloc, ROOMY)?;
     let mut other = table.attach(first);
-    if !have_answers(rt, alloc, &mut other, &FIRST) {
-        return Ok(false);
-    }
-    Ok(moves(rt, alloc, &mut table.attach(second), &mut other, key, rows))
+    let mut pass = table.attach(second);
+    let moved = moves_behind_put(rt, alloc, &mut pass, &mut other, key, rows);
+    drop(pass);
+    drop(other);
+    Ok(moved)
 }
 
 const REPLACED: [Row; 1] = [Row::Put(1, 5, 51, Ok(Done { at: 2, was: true }))];
@@ -89,7 +105,7 @@ const REMOVED: [Row; 1] = [Row::Remove(5, Ok(Done { at: 2, was: true }))];
 /// First the link leads to another node, then the node of the link is marked.
 #[test]
 fn a_pass_finds_that_what_it_has_searched_moved(rt: HostRuntime) -> Result<(), Fail> {
-    assert!(rt; moves_behind_put(&rt, rt.alloc(), 5, &REPLACED)?);
-    assert!(rt; moves_behind_put(&rt, rt.alloc(), 3, &REMOVED)?);
+    assert!(rt; moves_on_a_table(&rt, rt.alloc(), 5, &REPLACED)?);
+    assert!(rt; moves_on_a_table(&rt, rt.alloc(), 3, &REMOVED)?);
     Ok(())
 }

@@ -33,13 +33,14 @@ pub(crate) fn opened(
     }
 }
 
-/// The keys of a table of two passes.
-pub(crate) fn both(mut keys: Vec<PassKey>) -> Option<(PassKey, PassKey)>
-    ensures { IfSome result (λ two. keys.items ≡ two.0 ∷ two.1 ∷ []) }
+/// The items of a list of two. What is proved of any type is proved faster: a key has many parts to drop.
+pub(crate) fn both<T: Drop>(items: Vec<T>) -> Option<(T, T)>
+    ensures { IfSome result (λ two. items.items ≡ two.0 ∷ two.1 ∷ []) }
 {
-    let second = keys.pop()?;
-    let first = keys.pop()?;
-    if !keys.is_empty() {
+    let mut items = items;
+    let second = items.pop()?;
+    let first = items.pop()?;
+    if !items.is_empty() {
         return None;
     }
     Some((first, second))

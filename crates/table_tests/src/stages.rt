@@ -152,7 +152,27 @@ fn put_with_own_slots<P: TestedPass>(
     put_in_stages(pass, other, &slots, before, place)
 }
 
-/// The same on a table of two passes, after the calls of these rows.
+/// The same, after the calls of these rows.
+fn met_after<P: TestedPass, R: Wait>(
+    rt: &R,
+    alloc: Global,
+    pass: &mut TablePass<'_>,
+    other: &mut P,
+    rows: &[Row],
+    before: Seen,
+    place: u64,
+) -> Option<([bool; 3], [bool; 5])>
+    requires rest { AtRest pass.old.view }
+    requires other { AtRest (P.view other.old) }
+{
+    if have_answers(rt, alloc, pass, rows) {
+        put_with_own_slots(pass, other, before, place)
+    } else {
+        None
+    }
+}
+
+/// The same on a table of two passes.
 fn met_behind<R: Wait>(
     rt: &R,
     alloc: Global,
@@ -162,10 +182,11 @@ fn met_behind<R: Wait>(
 ) -> Result<Option<([bool; 3], [bool; 5])>, NoMemory> {
     let (table, first, second) = two_passes(alloc, ROOMY)?;
     let mut pass = table.attach(second);
-    if !have_answers(rt, alloc, &mut pass, rows) {
-        return Ok(None);
-    }
-    Ok(put_with_own_slots(&mut pass, &mut table.attach(first), before, place))
+    let mut other = table.attach(first);
+    let met = met_after(rt, alloc, &mut pass, &mut other, rows, before, place);
+    drop(pass);
+    drop(other);
+    Ok(met)
 }
 
 const MET: Option<([bool; 3], [bool; 5])> = Some(([true; 3], [true; 5]));

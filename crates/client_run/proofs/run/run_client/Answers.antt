@@ -1,84 +1,12 @@
-use Rattle.std.proofs.Common.{◌≡◌, ℕ, List, ◌≤◌, ◌++◌, ◌∷◌, [], Option, Some, length, get_or, take, sym, subst, ap, ◌∙◌, refl, arith, if◌then◌else◌}
-use Rattle.std.specs.Option.{option_copied, ForSome}
-use Rattle.bucket_terms.specs.declared.reply.Reply.{Reply}
-use Rattle.bucket_terms.specs.declared.reply.Placed.{Placed}
-use Rattle.bucket_terms.specs.LegalRun.{RequestLine, is_listing, last_listing, answered_lines}
-use Rattle.bucket_terms.specs.RunParts.{updates_in}
+use Rattle.std.proofs.Common.{arith}
+use Rattle.std.proofs.lemmas.List.{length-map}
 use Rattle.request_lines.specs.Session.{request_line, request_lines}
-use Rattle.client_run.specs.ClientRun.{Answers, IsLaterLine}
-use Rattle.client_run.specs.Listing.{HasPageInRange}
-use Rattle.request_lines.specs.SessionLaws.{IsAskable}
-use Rattle.client_run.proofs.Turn.{later_at, call_at, line_here, first_turn, next_turn, reply_at, last_in_range}
-use Rattle.client_run.proofs.Stopping.{after_error, stopped_later, stopped_behind}
+use Rattle.client_run.proofs.PartRuns.{whole_run}
 use Rattle.client_run.proofs.run.run_client.Goals as goal
 
-pub loop-asked-init : goal.loop-asked-init
-loop-asked-init g c =
-    (rw c.in_ok-replies.ensures.items (first_turn c.args.dir.now (g.P.KeyPass.view c.args.pass.now) c.client-client.ensures.mine c.requires.closed), refl)
-
-pub answer-requires-clause-askable : goal.answer-requires-clause-askable
-answer-requires-clause-askable g c =
-    let d = c.asked-item.result in
-    let here = line_here c.args.part.now.requests c.as_slice-asked-items.result.now c.loop-asked.asked-index d c.as_slice-asked-items.ensures c.loop-asked-test.true c.asked-item.is in
-    rw c.in_ok-known.ensures (subst (λ (l : RequestLine). IsAskable c.args.dir.now l) here.1 (c.requires.askable c.loop-asked.asked-index (request_line d) here.0))
-
-pub answer-requires-clause-calls : goal.answer-requires-clause-calls
-answer-requires-clause-calls g c =
-    let d = c.asked-item.result in
-    let here = line_here c.args.part.now.requests c.as_slice-asked-items.result.now c.loop-asked.asked-index d c.as_slice-asked-items.ensures c.loop-asked-test.true c.asked-item.is in
-    subst (λ (l : RequestLine). updates_in (l ∷ []) ≤ (g.P.KeyPass.view c.loop-asked.pass).left) here.1
-    (call_at c.args.dir.now (request_lines c.args.part.now) c.loop-asked.asked-index (request_line d) (g.P.KeyPass.view c.args.pass.now) (g.P.KeyPass.view c.loop-asked.pass) c.loop-asked.replies.items here.0 c.loop-asked.invariant.0.running c.requires.calls)
-
-pub answer-requires-clause-later : goal.answer-requires-clause-later
-answer-requires-clause-later g c =
-    let d = c.asked-item.result in
-    let here = line_here c.args.part.now.requests c.as_slice-asked-items.result.now c.loop-asked.asked-index d c.as_slice-asked-items.ensures c.loop-asked-test.true c.asked-item.is in
-    subst (λ (l : RequestLine). IsLaterLine (g.P.KeyPass.view c.loop-asked.pass) l.line) here.1
-    (later_at c.args.dir.now (request_lines c.args.part.now) c.loop-asked.asked-index (request_line d) (g.P.KeyPass.view c.args.pass.now) (g.P.KeyPass.view c.loop-asked.pass) c.loop-asked.replies.items here.0 c.loop-asked.invariant.0.running c.requires.later c.requires.rising)
-
-pub answer-requires-clause-in_range : goal.answer-requires-clause-in_range
-answer-requires-clause-in_range g c =
-    let replies = c.loop-asked.replies.items in
-    let is : option_copied c.reply_at-last_reply.result ≡ reply_at replies c.loop-asked.last = c.reply_at-last_reply.ensures ∙ ap (λ (rs : List Placed). reply_at rs c.loop-asked.last) c.deref.ensures.value in
-    rw c.in_ok-known.ensures (subst (λ (o : Option Reply). ForSome o (HasPageInRange c.args.dir.now)) (sym is) (last_in_range c.args.dir.now replies c.loop-asked.last c.loop-asked.invariant.0.in_range))
-
-pub loop-asked-preserved : goal.loop-asked-preserved
-loop-asked-preserved g c =
-    let lines = request_lines c.args.part.now in
-    let i = c.loop-asked.asked-index in
-    let d = c.asked-item.result in
-    let old = g.P.KeyPass.view c.args.pass.now in
-    let mid = g.P.KeyPass.view c.loop-asked.pass in
-    let now = g.P.KeyPass.view c.answer.new.pass in
-    let replies = c.loop-asked.replies.items in
-    let p = c.in_ok-placed.placed in
-    let here = line_here c.args.part.now.requests c.as_slice-asked-items.result.now i d c.as_slice-asked-items.ensures c.loop-asked-test.true c.asked-item.is in
-    let before = c.loop-asked.invariant.0 in
-    let last = c.loop-asked.last in
-    let last_is : option_copied c.reply_at-last_reply.result ≡ last_listing (answered_lines (take i lines) replies) =
-    c.reply_at-last_reply.ensures ∙ ap (λ (rs : List Placed). reply_at rs last) c.deref.ensures.value ∙ before.listing in
-    let long : c.len-place.result ≡ length replies = omega arith in
-    let later_is : c.later_listing-last.result ≡ (if is_listing (get_or lines i (request_line d)).request then Some (length replies) else last) =
-    c.later_listing-last.ensures
-    ∙ ap (λ (n : ℕ). if is_listing d.request then Some n else last) long
-    ∙ ap (λ (l : RequestLine). if is_listing l.request then Some (length replies) else last) (sym here.1) in
-    let pushed : c.push.new.self.items ≡ replies ++ p ∷ [] = c.in_ok-push.ensures.items in
-    let answered : Answers c.args.dir.now mid now (last_listing (answered_lines (take i lines) replies)) (record { asked = get_or lines i (request_line d); placed = p }) =
-    subst (λ (l : RequestLine). Answers c.args.dir.now mid now (last_listing (answered_lines (take i lines) replies)) (record { asked = l; placed = p })) (sym here.1)
-    (subst (λ (o : Option Reply). Answers c.args.dir.now mid now o (record { asked = request_line d; placed = p })) last_is
-    (rw (← c.in_ok-known.ensures) c.in_ok-placed.ensures.answers)) in (
-      rw pushed (next_turn c.args.dir.now lines i (request_line d) old mid now replies p last c.later_listing-last.result here.0 before c.requires.later c.requires.rising answered (rw (← c.in_ok-known.ensures) c.in_ok-placed.ensures.in_range) later_is),
-      c.in_ok-placed.ensures.home ∙ c.loop-asked.invariant.1,
-    )
-
-pub returns-in_err-placed-clause-stopped : goal.returns-in_err-placed-clause-stopped
-returns-in_err-placed-clause-stopped g c =
-    let view = g.P.KeyPass.view in
-    after_error c.from_residual-in_err-placed.result (stopped_later (view c.args.pass.now) (view c.loop-asked.pass) (view c.answer.new.pass) c.loop-asked.invariant.0.running.ran.continues c.in_err-placed.ensures.stopped)
-
-pub returns-in_err-push-clause-stopped : goal.returns-in_err-push-clause-stopped
-returns-in_err-push-clause-stopped g c =
-    let view = g.P.KeyPass.view in
-    after_error c.from_residual-in_err-push.result
-    (stopped_behind c.args.dir.now (view c.args.pass.now) (view c.loop-asked.pass) (view c.answer.new.pass) (option_copied c.reply_at-last_reply.result) (record { asked = request_line c.asked-item.result; placed = c.in_ok-placed.placed })
-    c.loop-asked.invariant.0.running.ran.continues (rw (← c.in_ok-known.ensures) c.in_ok-placed.ensures.answers))
+pub returns-clause-ran : goal.returns-clause-ran
+returns-clause-ran g c =
+    let long = length-map c.args.part.now.requests request_line in
+    whole_run c.args.dir.now (request_lines c.args.part.now) (g.P.KeyPass.view c.args.pass.now) (g.P.KeyPass.view c.run_part.new.pass) c.in_ok-replies.replies.items
+    c.in_ok-progress.progress c.in_ok-replies.field-0-1 c.len.result c.in_ok-progress.ensures (omega (arith, long, c.len.ensures)) c.in_ok-replies.ensures.went
+    c.requires.closed c.requires.later c.requires.rising

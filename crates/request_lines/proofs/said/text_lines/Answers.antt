@@ -5,7 +5,7 @@ use Rattle.request_lines.proofs.BrokenLines.{first_lines}
 use Rattle.request_lines.proofs.said.text_lines.Goals as goal
 
 pub returns-in-Ok : goal.returns-in-Ok
-returns-in-Ok c = record { behind = []; all = sym (append-nil (texts_of c.in-Ok.text.now) ∙ ap texts_of c.in-Ok.ensures.cases.0); stops = refl }
+returns-in-Ok c = record { after = []; all = sym (append-nil (texts_of c.in-Ok.text.now) ∙ ap texts_of c.in-Ok.ensures.cases.0); stops = refl }
 
 pub whole_lines-requires : goal.whole_lines-requires
 whole_lines-requires c = rw (c.split_at.ensures.front, c.valid_up_to.ensures) (c.in-Err.ensures.cases.1).front

@@ -4,7 +4,7 @@ use Rattle.line_grammar.specs.declared.command.Command.{Command}
 use Rattle.std.proofs.lemmas.List.{length-set, get_or-set_other}
 use Rattle.request_lines.specs.Reading.{progress, TakesAll}
 use Rattle.request_lines.specs.Said.{SaysLine}
-use Rattle.request_lines.proofs.TakingLaws.{says_few, says_fewer, say_at, taken_start, line_refused, line_taken, takes_all, stops_behind}
+use Rattle.request_lines.proofs.TakingLaws.{says_few, says_fewer, say_at, taken_start, line_refused, line_taken, takes_all, stops_after}
 use Rattle.request_lines.proofs.reader.Reader.take_all.Goals as goal
 
 pub loop-place-init : goal.loop-place-init
@@ -45,7 +45,7 @@ returns-in_err-take_said-clause-taken c texts read =
     let lt : i < length c.args.said.now.commands.items = omega (arith, c.loop-place.invariant.long, c.len-place-end.ensures, c.loop-place-test.true) in
     rw (error.1, error.2)
     (subst (λ (ts : List (List ℕ)). TakesAll p c.args.before ts after (Err cause)) (sym says.all)
-    (line_refused after says.front says.behind c.args.said.now.commands.items i e says.commands lt (c.loop-place.invariant.taken says.front says.behind says.commands) cause
+    (line_refused after says.front says.after c.args.said.now.commands.items i e says.commands lt (c.loop-place.invariant.taken says.front says.after says.commands) cause
     (λ text s. c.in_err-take_said.ensures.taken text (subst (λ (o : Option Command). SaysLine text o) (sym here) s))))
 
 pub loop-place-preserved : goal.loop-place-preserved
@@ -73,7 +73,7 @@ pub returns-in-Some-clause-taken : goal.returns-in-Some-clause-taken
 returns-in-Some-clause-taken c texts read =
     let all : c.loop-place.place ≡ length c.args.said.now.commands.items = omega (arith, c.loop-place.invariant.long, c.len-place-end.ensures, c.loop-place.auto.place-end, c.loop-place-test.false) in
     rw c.error_at.ensures
-    (stops_behind (progress c.args.self.now) (progress c.loop-place.self) c.args.before c.loop-place.number c.loop-place.place texts c.args.said.now (read c.in_ok-said.was) all c.loop-place.invariant.taken
+    (stops_after (progress c.args.self.now) (progress c.loop-place.self) c.args.before c.loop-place.number c.loop-place.place texts c.args.said.now (read c.in_ok-said.was) all c.loop-place.invariant.taken
     (progress c.loop-place.self) c.in-Some.cause (sym c.loop-place.invariant.cause ∙ c.in-Some.is))
 
 pub returns-in-None-clause-taken : goal.returns-in-None-clause-taken

@@ -30,7 +30,7 @@ returns-in-Err-Faulty c texts are =
     let faulty = subst (λ (e : LineError). ReadsLine line (Err e)) c.in-Err-Faulty.field-0-is c.in-Err-Faulty.ensures in
     record {
       front = now.front;
-      behind = line ∷ (texts_left rest ++ are.behind);
+      after = line ∷ (texts_left rest ++ are.after);
       all = first_cut c.args.lines texts now.front (line ∷ texts_left rest) c.args.self.now.cause are now.all;
       commands = now.say;
       cause = subst (λ (cause : Cause). said_of line ≡ Some (Err cause)) (sym c.in-Err-Faulty.cause-is) faulty;
@@ -41,8 +41,8 @@ returns c texts are =
     let now : IsSaidUpTo (texts_left c.args.lines) [] c.loop-left.self.commands.items = rw c.in_default.is at c.loop-left.invariant.said in
     record {
       front = now.front;
-      behind = are.behind;
+      after = are.after;
       all = first_cut c.args.lines texts now.front [] c.args.self.now.cause are now.all;
       commands = now.say;
-      cause = subst (λ (cause : Option Cause). StopsAt are.behind cause) (sym c.loop-left.invariant.cause) are.stops;
+      cause = subst (λ (cause : Option Cause). StopsAt are.after cause) (sym c.loop-left.invariant.cause) are.stops;
     }
