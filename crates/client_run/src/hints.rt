@@ -11,7 +11,7 @@ use request_lines::Requests;
 const AHEAD: usize = 16;
 
 /// Where the directory may have the name of a request, and how many bytes the name there has.
-#[derive(Clone, Copy, Debug)]
+#[derive(Clone, Copy)]
 pub(crate) struct Hint {
     rank: u64,
     len: usize,
@@ -49,7 +49,7 @@ impl Hint {
 }
 
 /// The hints for some requests that follow one another.
-#[derive(Clone, Copy, Debug)]
+#[derive(Clone, Copy)]
 pub(crate) struct Hints {
     hints: [Hint; AHEAD],
 }

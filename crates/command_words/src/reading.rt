@@ -57,14 +57,22 @@ fn matches_of<'a>(alloc: Global, words: &'a [&'a str]) -> Result<Option<ArgMatch
 fn program<'a>(alloc: Global) -> Result<Command<'a>, AllocError>
     ensures { IfOk result (λ command. app_of command ≡ spec.program) }
 {
-    let run = run_command(alloc)?;
-    let check = check_command(alloc)?;
-    let sample = sample_command(alloc)?;
-    Command::new(alloc, "bucketidx")
-        .no_binary_name(true)
-        .subcommand(run)?
-        .subcommand(check)?
-        .subcommand(sample)
+    let bare = Command::new(alloc, "bucketidx").no_binary_name(true);
+    let Ok(run) = run_command(alloc) else {
+        drop(bare);
+        return Err(AllocError);
+    };
+    let with_run = bare.subcommand(run)?;
+    let Ok(check) = check_command(alloc) else {
+        drop(with_run);
+        return Err(AllocError);
+    };
+    let with_check = with_run.subcommand(check)?;
+    let Ok(sample) = sample_command(alloc) else {
+        drop(with_check);
+        return Err(AllocError);
+    };
+    with_check.subcommand(sample)
 }
 
 // `run`, whose number is the value of one of two options.

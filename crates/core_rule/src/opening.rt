@@ -4,7 +4,7 @@ ghost use Rattle.index_words.specs.Sizes.{all_nodes, all_entries};
 ghost use Rattle.index_words.specs.Views.{empty_view};
 ghost use Rattle.core_events.specs.Openings.{from_up, pass_view, pass_views};
 
-use index_words::{Items, Layout, NoMemory, PassSize, View};
+use index_words::{Items, Layout, NoMemory, PassSize, Slots, View};
 use std::alloc::{AllocError, Global};
 
 /// So many words that are 0.
@@ -33,6 +33,17 @@ struct First {
     entry: u32,
 }
 
+/// All slots of a pass.
+fn pass_slots(alloc: Global, first: First, size: &PassSize) -> Result<Slots, NoMemory>
+    requires nodes { first.node + size.now.nodes < 2 ^ 32 }
+    requires entries { first.entry + size.now.entries < 2 ^ 32 }
+    ensures { IfOk result (λ slots. slots ≡ record { nodes = from_up first.node size.now.nodes; entries = from_up first.entry size.now.entries }) }
+{
+    let nodes = slots_from(alloc, first.node, size.nodes)?;
+    let entries = slots_from(alloc, first.entry, size.entries)?;
+    Ok(Slots { nodes, entries })
+}
+
 fn pass_seat(
     alloc: Global,
     layout: &Layout,
@@ -43,15 +54,13 @@ fn pass_seat(
     requires entries { first.entry + size.now.entries < 2 ^ 32 }
     ensures { IfOk result (λ view. view ≡ pass_view layout.now first.number first.node first.entry size.now) }
 {
-    let nodes = slots_from(alloc, first.node, size.nodes)?;
-    let entries = slots_from(alloc, first.entry, size.entries)?;
+    let free = pass_slots(alloc, first, size)?;
+    let unused = pass_slots(alloc, first, size)?;
     let mut view = View::empty(alloc, *layout);
     view.number = Some(first.number);
     view.history.left = size.calls;
-    view.unused.nodes = nodes.copy(alloc)?;
-    view.unused.entries = entries.copy(alloc)?;
-    view.free.nodes = nodes;
-    view.free.entries = entries;
+    view.free = free;
+    view.unused = unused;
     Ok(view)
 }
 

@@ -42,24 +42,48 @@ fn run_rows(rt: &HostRuntime) -> io::Result<()> {
         return println!(rt; "no rows");
     };
     let mut table: Option<Table> = None;
+    let checked = check_rows(rt, &mut table, text);
+    drop(table);
+    let Checked {
+        tests,
+        rows,
+        failed,
+    } = checked?;
+    println!(rt; "{tests} tests of {rows} rows, {failed} do not hold")
+}
+
+/// How many tests and rows a text has, and how many of the rows do not hold.
+#[derive(Clone, Copy)]
+struct Checked {
+    tests: usize,
+    rows: usize,
+    failed: usize,
+}
+
+/// Checks the rows of a text, and prints those that do not hold.
+fn check_rows(rt: &HostRuntime, table: &mut Option<Table>, text: &str) -> io::Result<Checked> {
     let (mut tests, mut rows, mut failed) = (0usize, 0usize, 0usize);
     for (place, row) in text.lines().enumerate() {
         if row.is_empty() || row.starts_with('#') {
             continue;
         }
         if row.starts_with("test ") {
-            table = None;
+            drop(table.take());
             tests = tests.saturating_add(1);
             continue;
         }
         rows = rows.saturating_add(1);
-        if let Err(fault) = check_row(alloc, &mut table, row) {
+        if let Err(fault) = check_row(rt.alloc(), table, row) {
             failed = failed.saturating_add(1);
             let line = place.saturating_add(1);
             println!(rt; "line {line}: {row}: {fault:?}")?;
         }
     }
-    println!(rt; "{tests} tests of {rows} rows, {failed} do not hold")
+    Ok(Checked {
+        tests,
+        rows,
+        failed,
+    })
 }
 
 fn run_turns(rt: &HostRuntime, count: u64) -> io::Result<()> {
@@ -68,7 +92,11 @@ fn run_turns(rt: &HostRuntime, count: u64) -> io::Result<()> {
     let word = Layout::new(&sizes).and_then(|layout| {
         run_of(rt.alloc(), &layout, &sizes, events.as_slice())
             .ok()
-            .and_then(|state| state.word(1))
+            .and_then(|state| {
+                let word = state.word(1);
+                drop(state);
+                word
+            })
     });
     match word {
         Some(word) => println!(rt; "{count} events: section word {word}"),

@@ -113,9 +113,9 @@ pub(crate) fn change_of(fields: &mut Split<'_, char>) -> Option<Change> {
 
 /// The kind with this name.
 pub(crate) fn kind_of(name: &str) -> Option<Kind> {
-    for (kind_name, kind) in KINDS {
-        if kind_name == name {
-            return Some(kind);
+    for (kind_name, kind) in &KINDS {
+        if *kind_name == name {
+            return Some(*kind);
         }
     }
     None

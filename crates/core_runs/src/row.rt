@@ -131,6 +131,13 @@ fn act_of(name: &str, words: &mut Split<'_, char>) -> Option<Act> {
         },
         "tag" => Act::RaiseTag(link_named(words.next()?)?),
         "head" => Act::LoadHead(link_named(words.next()?)?),
+        _ => return long_act_of(name, words),
+    })
+}
+
+/// What brings in new entries or nodes.
+fn long_act_of(name: &str, words: &mut Split<'_, char>) -> Option<Act> {
+    Some(match name {
         "entry" => Act::FillEntry {
             entry: next_u32(words)?,
             child: next_u32(words)?,

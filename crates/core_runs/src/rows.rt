@@ -50,9 +50,7 @@ impl From<AllocError> for Fault {
 pub(crate) fn check_row(alloc: Global, table: &mut Option<Table>, row: &str) -> Result<(), Fault> {
     let (name, rest) = row.split_once(' ').ok_or(Fault::NoRow)?;
     if name == "sizes" {
-        let sizes = sizes_of(alloc, rest).ok_or(Fault::NoRow)?;
-        *table = Some(Table::start(alloc, sizes.as_slice()).ok_or(Fault::NoRow)?);
-        return Ok(());
+        return starts(alloc, table, rest);
     }
     let table = table.as_mut().ok_or(Fault::NoRow)?;
     match name {
@@ -64,6 +62,14 @@ pub(crate) fn check_row(alloc: Global, table: &mut Option<Table>, row: &str) -> 
         "reads" => reads(alloc, table, rest),
         _ => does_all(table, row),
     }
+}
+
+/// Starts a table with passes of these sizes.
+fn starts(alloc: Global, table: &mut Option<Table>, sizes: &str) -> Result<(), Fault> {
+    let sizes = sizes_of(alloc, sizes).ok_or(Fault::NoRow)?;
+    let started = Table::start(alloc, sizes.as_slice()).ok_or(Fault::NoRow)?;
+    drop(table.replace(started));
+    Ok(())
 }
 
 fn does_all(table: &mut Table, row: &str) -> Result<(), Fault> {

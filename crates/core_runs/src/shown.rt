@@ -76,7 +76,7 @@ fn text_of<T: Debug>(alloc: Global, part: &T) -> Result<String, AllocError> {
 
 /// All parts, each on a line of its own.
 pub(crate) fn push_parts(alloc: Global, view: &View, text: &mut String) -> Result<(), AllocError> {
-    for name in PARTS {
+    for name in &PARTS {
         if let Some(part) = part_of(alloc, view, name)? {
             text.push_str(part.as_str())?;
         }

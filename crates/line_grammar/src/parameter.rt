@@ -4,14 +4,14 @@ ghost use Rattle.line_grammar.specs.Asking as kept;
 ghost use Rattle.line_grammar.specs.NamedQueries as spec;
 
 /// The version of a listing: a LISTV1 line asks one of version 1, a LIST line one of version 2.
-#[derive(Clone, Copy, Debug, PartialEq, Eq)]
+#[derive(Clone, Copy, PartialEq, Eq)]
 pub(crate) enum Version {
     V1,
     V2,
 }
 
 /// The name of a parameter.
-#[derive(Clone, Copy, Debug, PartialEq, Eq)]
+#[derive(Clone, Copy, PartialEq, Eq)]
 pub(crate) enum Name {
     ListType,
     Prefix,

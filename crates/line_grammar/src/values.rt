@@ -16,7 +16,7 @@ use key_names::Text;
 use std::alloc::Global;
 
 /// The values of a query's parameters. An empty text is one that was not given.
-#[derive(Debug, Drop)]
+#[derive(Drop)]
 pub(crate) struct Values {
     pub(crate) prefix: Text,
     pub(crate) delimiter: Text,

@@ -12,7 +12,7 @@ pub enum PutWhen {
 }
 
 /// The first field of a line.
-#[derive(Clone, Copy, Debug, PartialEq, Eq)]
+#[derive(Clone, Copy, PartialEq, Eq)]
 pub(crate) enum Verb {
     Client,
     Put(PutWhen),

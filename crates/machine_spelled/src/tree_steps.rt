@@ -13,8 +13,8 @@ ghost use Rattle.core_trees.specs.SpelledTree.{spells};
 ghost use Rattle.core_events.specs.SpelledNow.{child_now, tree_now};
 ghost use Rattle.core_events.specs.LoadMoves.{locks};
 ghost use Rattle.core_events.specs.PlainWork.{plain_move};
-ghost use Rattle.core_events.specs.TreeMoves.{takes, brings, has_key, first_slot, new_entries, is_fresh as fresh, is_new as new_node, tree_after, is_tree_step as makes_step, is_key as fits_key};
-ghost use Rattle.machine_spelled.specs.LinkPlans.{planned_move};
+ghost use Rattle.core_events.specs.TreeMoves.{takes, brings, has_key, first_slot, new_entries, is_fresh as fresh, is_new as new_node, is_plain_new as plain_node, finds_gap as gap_needed, sets_locked, tree_after, is_tree_step as makes_step, is_key as fits_key};
+ghost use Rattle.machine_spelled.specs.LinkPlans.{planned_links, planned_move};
 ghost use Rattle.machine_spelled.specs.Sights.{memory_of, more_of, graph_seen, seen};
 
 use crate::gaps::finds_gap;
@@ -281,11 +281,32 @@ fn is_key(key: u64) -> bool
     key <= u64::MAX
 }
 
+/// Whether the seat has locked the nodes of the plain links, a new node has its children in its own, and a new key is
+/// put at a null link that the seat's search found.
+fn has_plain_links(
+    sight: &Sight<'_>,
+    view: &View,
+    tree: Subtree,
+    plan: Plan,
+    update: Update,
+) -> bool
+    ensures { result ≡ (list_all (sets_locked view.now) (planned_links plan.links) && plain_node (memory_of sight.now) plan.added && gap_needed (memory_of sight.now) view.now update (seen sight.now tree)) }
+{
+    is_plain_step(sight, view, plan.links, plan.added) && finds_gap(sight, view, tree, update)
+}
+
+/// Whether all of these hold. As a call it leaves the proof of the test below with one case.
+fn all_hold(fits: bool, there: bool, locked: bool, ready: bool, spelled: bool, plain: bool) -> bool
+    ensures { result ≡ (fits && there && locked && ready && spelled && plain) }
+{
+    fits && there && locked && ready && spelled && plain
+}
+
 /// Whether the pending entries of the view and those of a new node, with the next number, spell the tree after the
 /// update. Besides, the seat has locked each node that is taken out and the node of each plain link that is to be set,
 /// a new node has its children in its plain links, and a key that is not in the tree is put at a null link that the
 /// seat's search found.
-#[tactic(auto, using(crate::proofs::TreeTests::step_is))]
+#[tactic(auto)]
 pub fn is_tree_step(
     layout: &Layout,
     words: &[u64],
@@ -318,7 +339,6 @@ pub fn is_tree_step(
     let locked = are_locked(view.held.nodes.as_slice(), plan.taken);
     let ready = is_new(&before, view, plan.added);
     let spelled = spells_after(&after, tree, plan.slot, update);
-    let plain = is_plain_step(&before, view, plan.links, plan.added)
-        && finds_gap(&before, view, tree, update);
-    is_key(update.key) && there && locked && ready && spelled && plain
+    let plain = has_plain_links(&before, view, tree, plan, update);
+    all_hold(is_key(update.key), there, locked, ready, spelled, plain)
 }

@@ -43,6 +43,7 @@ pub(crate) fn join_seats(
     let gains = gain(alloc, &views[seat], &views[other])?;
     let view = &mut views[seat];
     take_gain(view, gains);
-    views[other] = View::spent(alloc);
+    let joined = std::mem::replace(&mut views[other], View::spent(alloc));
+    drop(joined);
     Ok(())
 }

@@ -67,9 +67,11 @@ fn size_of(story: &Story) -> PassSize {
 
 /// The fact of the first story whose rows do not have their answers.
 fn first_wrong<R: Wait>(rt: &R, alloc: Global) -> Result<Option<&'static str>, Fail> {
-    for story in STORIES {
-        let mut pass = PlainPass::new(alloc, 7, size_of(&story))?;
-        if !have_answers(rt, &mut pass, story.rows) {
+    for story in &STORIES {
+        let mut pass = PlainPass::new(alloc, 7, size_of(story))?;
+        let is_right = have_answers(rt, &mut pass, story.rows);
+        drop(pass);
+        if !is_right {
             return Ok(Some(story.fact));
         }
     }

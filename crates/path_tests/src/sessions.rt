@@ -98,17 +98,24 @@ fn names(alloc: Global, session: &Session) -> Result<String, Fail> {
 /// Whether exactly this is kept of the row's text.
 fn is_kept(alloc: Global, row: &Row) -> Result<bool, Fail> {
     let session = read(alloc, row.text)?;
+    let is_kept = keeps(alloc, &session, row);
+    drop(session);
+    is_kept
+}
+
+/// Whether the session keeps exactly what the row says.
+fn keeps(alloc: Global, session: &Session, row: &Row) -> Result<bool, Fail> {
     Ok(
-        lines(alloc, &session)?.as_slice() == row.lines
-            && writes(alloc, &session)?.as_slice() == row.writes
-            && names(alloc, &session)?.as_str() == row.names,
+        lines(alloc, session)?.as_slice() == row.lines
+            && writes(alloc, session)?.as_slice() == row.writes
+            && names(alloc, session)?.as_str() == row.names,
     )
 }
 
 /// The text of the first row of which something else is kept.
 fn first_wrong(alloc: Global) -> Result<Option<&'static str>, Fail> {
-    for row in ROWS {
-        if !is_kept(alloc, &row)? {
+    for row in &ROWS {
+        if !is_kept(alloc, row)? {
             return Ok(Some(row.text));
         }
     }

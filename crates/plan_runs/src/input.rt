@@ -24,17 +24,25 @@ const NO_SLOTS: PlanSlots = PlanSlots {
 
 /// The run of a text. None if the text is not a run, or when out of memory.
 pub(crate) fn input_of(alloc: Global, text: &str) -> Option<Input> {
-    let mut lines = text.lines();
     let mut input = Input {
         sizes: Vec::new(alloc),
         seats: Vec::new(alloc),
         turns: Vec::new(alloc),
     };
-    add_passes(alloc, &mut input, lines.next()?)?;
-    for line in lines {
-        add_line(&mut input, line)?;
+    if add_lines(alloc, &mut input, text).is_none() {
+        drop(input);
+        return None;
     }
     Some(input)
+}
+
+fn add_lines(alloc: Global, input: &mut Input, text: &str) -> Option<()> {
+    let mut lines = text.lines();
+    add_passes(alloc, input, lines.next()?)?;
+    for line in lines {
+        add_line(input, line)?;
+    }
+    Some(())
 }
 
 fn add_passes(alloc: Global, input: &mut Input, line: &str) -> Option<()> {

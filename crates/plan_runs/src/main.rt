@@ -33,35 +33,48 @@ fn main(rt: HostRuntime) -> io::Result<()> {
     let Ok(bytes) = read_all(alloc, &mut StdSource::new(&rt), MOST_BYTES) else {
         return println!(rt; "no input");
     };
-    let Some(input) = std::str::from_utf8(&bytes)
+    let Some(mut input) = std::str::from_utf8(&bytes)
         .ok()
         .and_then(|text| input_of(alloc, text))
     else {
         return println!(rt; "no run");
     };
+    let ran = run(&rt, alloc, &mut input);
+    drop(input);
+    ran
+}
+
+fn run(rt: &HostRuntime, alloc: Global, input: &mut Input) -> io::Result<()> {
     let Some(layout) = Layout::new(input.sizes.as_slice()) else {
         return println!(rt; "no layout");
     };
-    let Ok(machine) = Machine::start(alloc, &layout, input.sizes.as_slice()) else {
+    let Ok(mut machine) = Machine::start(alloc, &layout, input.sizes.as_slice()) else {
         return println!(rt; "no memory");
     };
-    run(&rt, alloc, machine, input)
+    let ran = take_turns(rt, alloc, &mut machine, input);
+    drop(machine);
+    ran
 }
 
-fn run(rt: &HostRuntime, alloc: Global, mut machine: Machine, mut input: Input) -> io::Result<()> {
+fn take_turns(
+    rt: &HostRuntime,
+    alloc: Global,
+    machine: &mut Machine,
+    input: &mut Input,
+) -> io::Result<()> {
     for number in input.turns.as_slice() {
-        if !one_turn(rt, alloc, &mut machine, &mut input.seats, *number, true)? {
+        if !one_turn(rt, alloc, machine, &mut input.seats, *number, true)? {
             return Ok(());
         }
     }
     for _ in 0..LAST_TURNS {
         for number in 0..input.seats.len() {
-            if !one_turn(rt, alloc, &mut machine, &mut input.seats, number, false)? {
+            if !one_turn(rt, alloc, machine, &mut input.seats, number, false)? {
                 return Ok(());
             }
         }
     }
-    print_words(rt, &machine)
+    print_words(rt, machine)
 }
 
 // Makes a turn of a pass. Returns whether the run goes on.

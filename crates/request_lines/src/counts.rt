@@ -7,7 +7,7 @@ use crate::limits::{MAX_CLIENTS, MAX_LISTED, MAX_REQUESTS};
 use line_grammar::{Cause, Command};
 
 /// How much the lines so far have asked.
-#[derive(Clone, Copy, Debug)]
+#[derive(Clone, Copy)]
 pub(crate) struct Counts {
     /// `CLIENT` lines.
     pub(crate) clients: u32,

@@ -48,7 +48,7 @@ pub fn sample_session(alloc: Global, n: u32) -> Result<Session, NoMemory>
 }
 
 /// The names and records of the requests so far.
-#[derive(Debug, Drop)]
+#[derive(Drop)]
 struct Generated {
     names: Interner,
     records: Vec<Record>,
@@ -57,7 +57,7 @@ struct Generated {
 }
 
 /// What a client's requests are made of: its first names and its query.
-#[derive(Debug, Drop)]
+#[derive(Drop)]
 struct Client {
     names: Vec<Text>,
     query: Shared<ListQuery>,

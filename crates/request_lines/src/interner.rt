@@ -20,7 +20,7 @@ use std::thread::Threads;
 /// A name that is known at the one place of a table where its hash leads is not kept again; any other one is, and
 /// takes the place. All that are kept are sorted once, after the last line, and equal names then stand together. So
 /// no choice of names makes the reading slow: at worst each line's name is kept.
-#[derive(Debug, Drop)]
+#[derive(Drop)]
 pub(crate) struct Interner {
     // The names that are kept, in the order in which they came. A name's number is its place among them.
     names: Vec<Text>,

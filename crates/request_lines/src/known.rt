@@ -8,14 +8,14 @@ const PLACES: usize = 65_536;
 
 /// At the place where a name's hash leads stands what was kept last with this place. It is a hint: that name may be a
 /// different one.
-#[derive(Debug, Drop)]
+#[derive(Drop)]
 pub(crate) struct Known {
     // No place before the first name.
     kept: Vec<Kept>,
 }
 
 /// The upper half of a name's hash, and its number. Before the first name of a place both are 0.
-#[derive(Clone, Copy, Debug)]
+#[derive(Clone, Copy)]
 struct Kept {
     upper: u32,
     number: u32,

@@ -15,7 +15,7 @@ use std::thread::Threads;
 const LEAD_BYTES: usize = 16;
 
 /// The number of a name, and its bytes after what all names begin with, as two numbers.
-#[derive(Debug, Drop)]
+#[derive(Drop)]
 pub(crate) struct Numbered {
     pub(crate) leads: (u128, u128),
     pub(crate) number: usize,

@@ -14,7 +14,7 @@ const AHEAD: usize = 16;
 
 /// The hash of a line's name, the number that it may have been kept under, and how many bytes the name of this number
 /// has. Contracts rely on none of it: a wrong hint only costs time.
-#[derive(Clone, Copy, Debug)]
+#[derive(Clone, Copy)]
 pub(crate) struct NameHint {
     hash: u64,
     number: Option<usize>,
@@ -81,7 +81,7 @@ pub(crate) fn if_kept_as(names: &[Text], name: &Text, number: usize) -> Option<u
 }
 
 /// The hints for some lines that follow one another.
-#[derive(Clone, Copy, Debug)]
+#[derive(Clone, Copy)]
 pub(crate) struct NameHints {
     hints: [NameHint; AHEAD],
 }

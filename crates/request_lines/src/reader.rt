@@ -24,7 +24,7 @@ use std::alloc::Global;
 use std::mem;
 
 /// What the lines so far have asked.
-#[derive(Debug, Drop)]
+#[derive(Drop)]
 pub(crate) struct Reader {
     pub(crate) counts: Counts,
     /// The parts of all clients but the current one.

@@ -19,7 +19,7 @@ use std::mem;
 const LINE_BYTES: usize = 16;
 
 /// What the lines of a block say, in a list that serves for the next block too.
-#[derive(Debug, Drop)]
+#[derive(Drop)]
 pub(crate) struct Said {
     /// What each line says, in order, up to the first that has a cause of its own; None of an empty one.
     pub(crate) commands: Vec<Option<Command>>,

@@ -12,7 +12,7 @@ use std::marker::Model;
 use std::thread::Threads;
 
 /// What a text asks, whose names are still to be sorted. Contracts see the session that it becomes.
-#[derive(Debug, Drop)]
+#[derive(Drop)]
 pub(crate) struct UnsortedSession {
     // Each request has the number of its name in place of the rank.
     clients: Vec<ClientPart>,

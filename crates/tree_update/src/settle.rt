@@ -18,7 +18,7 @@ pub enum Settling {
 }
 
 /// The answer of looks at another pass.
-#[derive(Clone, Copy, Debug, PartialEq, Eq)]
+#[derive(Clone, Copy, PartialEq, Eq)]
 pub(crate) enum PassLook {
     /// The batch is free.
     Freed,

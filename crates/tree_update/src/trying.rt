@@ -29,7 +29,7 @@ pub(crate) struct Wanted {
 }
 
 /// Why one try of an update was not made. The try has changed nothing.
-#[derive(Clone, Copy, Debug, PartialEq, Eq)]
+#[derive(Clone, Copy, PartialEq, Eq)]
 pub(crate) enum Missed {
     /// The search has not found the key of a removal: at the number at which it read the key was not there.
     Absent,

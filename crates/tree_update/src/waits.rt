@@ -31,7 +31,7 @@ pub(crate) fn pause() {
 
 /// What looks at all other passes have shown: the number at which the pass itself read, and the least one that it or
 /// another pass had announced.
-#[derive(Clone, Copy, Debug)]
+#[derive(Clone, Copy)]
 pub(crate) struct Sight {
     pub own: u64,
     pub least: u64,

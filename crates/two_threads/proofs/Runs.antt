@@ -1,5 +1,5 @@
 -- From the calls of a run to its one history.
-use Rattle.std.proofs.Common.{◌≡◌, ℕ, ◌+◌, ◌<◌, ◌≤◌, ◌==◌, ◌↔◌, nat_lt, Bool, true, false, if◌then◌else◌, List, [], ◌∷◌, ◌++◌, length, map, Result, Ok, Err, refl, sym, ap, ◌∙◌, subst, inl, inr, arith}
+use Rattle.std.proofs.Common.{◌≡◌, ℕ, ◌+◌, ◌<◌, ◌≤◌, ◌↔◌, nat_lt, Bool, true, false, if◌then◌else◌, List, [], ◌∷◌, ◌++◌, length, Result, Ok, Err, refl, sym, ap, ◌∙◌, subst, inl, inr, arith}
 use Rattle.std.specs.Prelude.{IsErrOf, IsOk}
 use Rattle.std.proofs.lemmas.Bool.Decides.{nat_tests}
 use Rattle.key_map.specs.declared.pass.Done.{Done}
@@ -10,7 +10,6 @@ use Rattle.key_map.specs.History.{own_places}
 use Rattle.key_map.specs.Lists.{count, Every}
 use Rattle.bucket_terms.specs.declared.list_query.ListQuery.{ListQuery}
 use Rattle.bucket_terms.specs.PassView.{PassView, Extends, IsOutOfSlots}
-use Rattle.bucket_terms.specs.PlainPass.{fresh}
 use Rattle.bucket_terms.specs.Pool.{Adopted, Lent, Traded}
 use Rattle.client_run.proofs.TradedAnswers.{extends_on, extends_same}
 use Rattle.table_rule.specs.Homes.{Home}
@@ -19,12 +18,13 @@ use Rattle.table_steps.specs.Passes.{Pass}
 use Rattle.shared_index.specs.Keys.{AreAllKeys, AreFresh, IsKeyOf, home_of_pass}
 use Rattle.shared_index.specs.Shown.{shown}
 use Rattle.shared_index.proofs.KeyHomes.{all_kept}
+use Rattle.two_threads.specs.declared.run.Ended.{Ended}
 use Rattle.two_threads.specs.declared.run.Left.{Left}
 use Rattle.two_threads.specs.declared.run.Ran.{Ran}
 use Rattle.two_threads.specs.declared.run.Tasks.{Tasks}
 use Rattle.two_threads.specs.declared.run.Turns.{Turns}
-use Rattle.two_threads.specs.Runs.{HandedOn, IsBack, IsRun, IsThread, LaidDown, sizes}
-use Rattle.two_threads.specs.Turns.{IsRight, TookTurn, place_of}
+use Rattle.two_threads.specs.Runs.{BothTook, HandedOn, IsBack, IsRun, IsThread, LaidDown, sizes}
+use Rattle.two_threads.specs.Turns.{IsRight, place_of}
 use Rattle.two_threads.proofs.Turns.{right_on}
 
 -- ---- a slot that was handed on
@@ -208,3 +208,25 @@ module _ (index : Home) (dir : List (List ℕ)) (query : ListQuery) (first secon
       at_most_one : (b : Bool) → (if b then 1 else 0) ≤ 1
       at_most_one true = omega arith
       at_most_one false = omega arith
+
+pub two_fresh : (keys : List Pass) → AreFresh 0 sizes keys → length keys ≡ 2
+two_fresh [] are = absurd are
+two_fresh (key ∷ []) are = absurd are.1
+two_fresh (key ∷ other ∷ []) are = refl
+two_fresh (key ∷ other ∷ more ∷ keys) are = absurd are.1.1
+
+module _ (index : Home) (dir : List (List ℕ)) (query : ListQuery) (first second : Tasks) (key other : Pass) (ended : Ended)
+    (took : BothTook index dir query first second key other ended) (are : AreFresh 0 sizes (key ∷ other ∷ [])) where
+  pub ended_back : AreAllKeys index (key ∷ other ∷ []) → AreAllKeys index (ended.keys.0 ∷ ended.keys.1 ∷ [])
+  ended_back all =
+      keys_back index dir query first second key other took.giver took.taker (record { key = took.early; turn = ended.first.early })
+      (record { key = took.early_other; turn = ended.second.early }) (record { key = ended.keys.0; turn = ended.first.late })
+      (record { key = ended.keys.1; turn = ended.second.late }) ended.handed are took.took took.took_other took.on took.took_late took.took_late_other all
+
+  pub ended_run : (ran : Ran) → ran.first ≡ ended.first → ran.second ≡ ended.second → ran.handed ≡ ended.handed
+      → BeginsWithSeen (ended.keys.0 ∷ ended.keys.1 ∷ []) ran.history.items → AreMadeBy (ended.keys.0 ∷ ended.keys.1 ∷ []) ran.history.items
+      → StandAtOwnPlaces (ended.keys.0 ∷ ended.keys.1 ∷ []) ran.history.items → IsRun dir query first second ran
+  ended_run =
+      run_is index dir query first second key other took.giver took.taker (record { key = took.early; turn = ended.first.early })
+      (record { key = took.early_other; turn = ended.second.early }) (record { key = ended.keys.0; turn = ended.first.late })
+      (record { key = ended.keys.1; turn = ended.second.late }) ended.handed are took.took took.took_other took.on took.took_late took.took_late_other

@@ -1,16 +1,17 @@
 -- What a run of the two threads found.
-use Rattle.std.specs.Prelude.{◌≡◌, ℕ, ◌+◌, ◌<◌, ◌≤◌, Bool, true, if◌then◌else◌, List, [], ◌∷◌, ◌++◌, length, None, IsOk}
+use Rattle.std.specs.Prelude.{◌≡◌, ℕ, ◌+◌, ◌<◌, Bool, true, if◌then◌else◌, List, [], ◌∷◌, ◌++◌, IsOk}
 use Rattle.key_map.specs.declared.pass.PassSize.{PassSize}
 use Rattle.key_map.specs.declared.update.Update.{Update}
 use Rattle.key_map.specs.History.{own_places}
 use Rattle.key_map.specs.Lists.{Every}
 use Rattle.bucket_terms.specs.declared.list_query.ListQuery.{ListQuery}
-use Rattle.bucket_terms.specs.PassView.{PassView, Extends}
+use Rattle.bucket_terms.specs.PassView.{Extends}
 use Rattle.table_rule.specs.Homes.{Home}
 use Rattle.table_steps.specs.Passes.{Pass}
 use Rattle.shared_index.specs.Keys.{IsKeyOf}
 use Rattle.shared_index.specs.Shown.{shown}
 use Rattle.two_threads.specs.declared.turn.Task.{Task}
+use Rattle.two_threads.specs.declared.run.Ended.{Ended}
 use Rattle.two_threads.specs.declared.run.Left.{Left}
 use Rattle.two_threads.specs.declared.run.Ran.{Ran}
 use Rattle.two_threads.specs.declared.run.Tasks.{Tasks}
@@ -41,6 +42,20 @@ pub record HandedOn (index : Home) (first second giver taker : Pass) (handed : B
   pub taker_back : IsBack index second taker
   pub given : (shown giver).nodes + (if handed then 1 else 0) ≡ (shown first).nodes
   pub taken : (shown taker).nodes ≡ (shown second).nodes + (if handed then 1 else 0)
+
+-- the passes of two keys each took both turns, and between these one of the two may have handed on a node slot
+pub record BothTook (index : Home) (dir : List (List ℕ)) (query : ListQuery) (first second : Tasks) (key other : Pass) (ended : Ended) : Type 0 where
+  -- what each pass knew after its early turn
+  pub early : Pass
+  pub early_other : Pass
+  -- and after the slot was handed on
+  pub giver : Pass
+  pub taker : Pass
+  pub took : LaidDown index dir query first.early key (record { key = early; turn = ended.first.early })
+  pub took_other : LaidDown index dir query second.early other (record { key = early_other; turn = ended.second.early })
+  pub on : HandedOn index early early_other giver taker ended.handed
+  pub took_late : LaidDown index dir query first.late giver (record { key = ended.keys.0; turn = ended.first.late })
+  pub took_late_other : LaidDown index dir query second.late taker (record { key = ended.keys.1; turn = ended.second.late })
 
 -- both turns of a thread are right in the history, whose only updates of the thread are their puts
 pub record IsThread (dir : List (List ℕ)) (query : ListQuery) (history : List Update) (thread : ℕ) (tasks : Tasks) (turns : Turns) : Type 0 where

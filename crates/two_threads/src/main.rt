@@ -16,8 +16,11 @@ use std::thread::Threads;
 use turn::Task;
 
 fn main(rt: HostRuntime) -> io::Result<()> {
-    match names(rt.alloc()) {
-        Ok(dir) => report(&rt, &dir, run_over(&rt, rt.alloc(), &dir)),
+    let Ok(dir) = names(rt.alloc()) else {
+        return println!(rt; "no memory");
+    };
+    match run_over(&rt, rt.alloc(), &dir) {
+        Ok(ran) => report(&rt, &dir, &ran),
         Err(NoMemory) => println!(rt; "no memory"),
     }
 }
@@ -73,10 +76,7 @@ fn task(line: u32, puts: u64, looks_up: u64) -> Task {
 }
 
 /// Prints what is the same whatever the schedule: who put each name, and whether a slot was handed on.
-fn report(rt: &HostRuntime, dir: &Directory, ran: Result<Ran, NoMemory>) -> io::Result<()> {
-    let Ok(ran) = ran else {
-        return println!(rt; "no memory");
-    };
+fn report(rt: &HostRuntime, dir: &Directory, ran: &Ran) -> io::Result<()> {
     for rank in 0..dir.len() {
         for update in ran.history.as_slice() {
             if update.key == rank {

@@ -1,7 +1,8 @@
 // Two threads at work over one shared index, from its opening to its close.
-ghost use Rattle.std.specs.Prelude.{◌≡◌, ◌<◌, ◌↔◌, true, [], ◌∷◌, length, None, IfOk};
+ghost use Rattle.std.specs.Prelude.{◌≡◌, ◌<◌, ◌↔◌, true, [], ◌∷◌, length, None, Ok, IfOk};
+ghost use Rattle.table_steps.specs.Closes.{AreMadeBy, BeginsWithSeen, StandAtOwnPlaces};
 ghost use Rattle.shared_index.specs.Keys.{AreAllKeys, AreFresh, IsKeyOf};
-ghost use Rattle.two_threads.specs.Runs.{HandedOn, IsRun, LaidDown, sizes};
+ghost use Rattle.two_threads.specs.Runs.{BothTook, HandedOn, IsRun, LaidDown, sizes};
 
 use crate::turn::{Task, Turn, take_turn};
 use bucket_terms::{ListQuery, PoolPass};
@@ -28,7 +29,7 @@ const SIZES: [PassSize; 2] = [
 ];
 
 /// What one thread is to do before the slot is handed on, and after it.
-#[derive(Clone, Copy, Debug)]
+#[derive(Clone, Copy)]
 pub(crate) struct Tasks {
     pub(crate) early: Task,
     pub(crate) late: Task,
@@ -48,6 +49,15 @@ pub(crate) struct Ran {
     pub(crate) second: Turns,
     pub(crate) handed: bool,
     pub(crate) history: Vec<Update>,
+}
+
+/// What both threads were answered, whether a slot was handed on, and the keys of the two passes.
+#[derive(Drop)]
+pub(crate) struct Ended {
+    pub(crate) first: Turns,
+    pub(crate) second: Turns,
+    pub(crate) handed: bool,
+    pub(crate) keys: (PassKey, PassKey),
 }
 
 /// A pass that was laid down after a turn, and what it was answered.
@@ -71,9 +81,27 @@ fn turn_of<Rt: Wait>(
     ensures left { IfOk result (LaidDown index.now dir.now query.now task key) }
 {
     let mut pass = index.attach(key);
-    let turn = take_turn(rt, alloc, &mut pass, dir, query, task)?;
-    let key = pass.detach();
-    Ok(Left { key, turn })
+    match take_turn(rt, alloc, &mut pass, dir, query, task) {
+        Ok(turn) => {
+            let key = pass.detach();
+            Ok(Left { key, turn })
+        }
+        Err(NoMemory) => {
+            drop(pass);
+            Err(NoMemory)
+        }
+    }
+}
+
+/// What both results hold, if both are right.
+fn both_ok<T: Drop>(
+    first: Result<T, NoMemory>,
+    second: Result<T, NoMemory>,
+) -> Result<(T, T), NoMemory>
+    ensures first { IfOk result (λ two. first ≡ Ok two.0) }
+    ensures second { IfOk result (λ two. second ≡ Ok two.1) }
+{
+    Ok((first?, second?))
 }
 
 /// Takes a turn of each of two passes at once, each on a thread of its own.
@@ -101,7 +129,7 @@ fn both_turns<Rt: Threads + Wait + Sync>(
         ensures { IfOk result (LaidDown index.entry.now dir.entry.now query.entry.now other second) }
     { turn_of(rt, alloc, index, second, dir, query, other) };
     let (first, second) = join(rt, here, there);
-    Ok((first?, second?))
+    both_ok(first, second)
 }
 
 /// Hands a free node slot of the first pass on to the second one, if the first has one.
@@ -132,15 +160,75 @@ fn opened(alloc: Global) -> Result<(SharedIndex, Vec<PassKey>), NoMemory>
     }
 }
 
-/// The two keys of a list.
-fn both(mut keys: Vec<PassKey>) -> (PassKey, PassKey)
-    requires fresh { AreFresh 0 sizes keys.items }
-    ensures { keys.items ≡ result.0 ∷ result.1 ∷ [] }
+/// The items of a list of two.
+fn both<T: Drop>(mut items: Vec<T>) -> (T, T)
+    requires two { length items.items ≡ 2 }
+    ensures { items.items ≡ result.0 ∷ result.1 ∷ [] }
 {
-    let (Some(second), Some(first)) = (keys.pop(), keys.pop()) else {
+    let (Some(second), Some(first)) = (items.pop(), items.pop()) else {
         unreachable!()
     };
     (first, second)
+}
+
+/// A turn of each of two passes at once, a slot that goes from one to the other, and a turn of each at once again.
+fn all_turns<Rt: Threads + Wait + Sync>(
+    rt: &Rt,
+    alloc: Global,
+    index: &SharedIndex,
+    keys: (PassKey, PassKey),
+    dir: &Directory,
+    query: &ListQuery,
+    tasks: (Tasks, Tasks),
+) -> Result<Ended, NoMemory>
+    requires first { IsKeyOf index.now keys.0 }
+    requires second { IsKeyOf index.now keys.1 }
+    ensures { IfOk result (BothTook index.now dir.now query.now tasks.0 tasks.1 keys.0 keys.1) }
+{
+    let (first, second) = tasks;
+    let tasks = (first.early, second.early);
+    let (early, other) = both_turns(rt, alloc, index, keys, dir, query, tasks)?;
+    let (giver, taker, handed) = hand_on(index, early.key, other.key);
+    let tasks = (first.late, second.late);
+    let (late, last) = both_turns(rt, alloc, index, (giver, taker), dir, query, tasks)?;
+    let first = Turns {
+        early: early.turn,
+        late: late.turn,
+    };
+    let second = Turns {
+        early: other.turn,
+        late: last.turn,
+    };
+    Ok(Ended {
+        first,
+        second,
+        handed,
+        keys: (late.key, last.key),
+    })
+}
+
+/// Closes the index, whose keys are these two, to its history.
+fn closed(
+    alloc: Global,
+    index: SharedIndex,
+    keys: (PassKey, PassKey),
+) -> Result<Vec<Update>, NoMemory>
+    requires all { AreAllKeys index (keys.0 ∷ keys.1 ∷ []) }
+    ensures seen { IfOk result (λ history. BeginsWithSeen (keys.0 ∷ keys.1 ∷ []) history.items) }
+    ensures clients { IfOk result (λ history. AreMadeBy (keys.0 ∷ keys.1 ∷ []) history.items) }
+    ensures places { IfOk result (λ history. StandAtOwnPlaces (keys.0 ∷ keys.1 ∷ []) history.items) }
+{
+    let Ok(keys) = vec![in alloc; keys.0, keys.1] else {
+        drop(index);
+        return Err(NoMemory);
+    };
+    match index.finish(alloc, keys) {
+        Ok(history) => Ok(history),
+        Err(refused) => {
+            drop(refused);
+            Err(NoMemory)
+        }
+    }
 }
 
 /// Runs the two threads: a turn of each at once, a slot that goes from one to the other, and a turn of each at once
@@ -156,24 +244,21 @@ pub(crate) fn run<Rt: Threads + Wait + Sync>(
     ensures run { IfOk result (IsRun dir.now query.now first second) }
 {
     let (index, keys) = opened(alloc)?;
-    let keys = both(keys);
-    let tasks = (first.early, second.early);
-    let (early, other) = both_turns(rt, alloc, &index, keys, dir, query, tasks)?;
-    let (giver, taker, handed) = hand_on(&index, early.key, other.key);
-    let tasks = (first.late, second.late);
-    let (late, last) = both_turns(rt, alloc, &index, (giver, taker), dir, query, tasks)?;
-    let keys = vec![in alloc; late.key, last.key]?;
-    let Ok(history) = index.finish(alloc, keys) else {
-        return Err(NoMemory);
+    let tasks = (first, second);
+    let ended = match all_turns(rt, alloc, &index, both(keys), dir, query, tasks) {
+        Ok(ended) => ended,
+        Err(NoMemory) => {
+            drop(index);
+            return Err(NoMemory);
+        }
     };
-    let first = Turns {
-        early: early.turn,
-        late: late.turn,
-    };
-    let second = Turns {
-        early: other.turn,
-        late: last.turn,
-    };
+    let Ended {
+        first,
+        second,
+        handed,
+        keys,
+    } = ended;
+    let history = closed(alloc, index, keys)?;
     Ok(Ran {
         first,
         second,

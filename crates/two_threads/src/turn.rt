@@ -10,7 +10,7 @@ use std::alloc::Global;
 use std::sync::Wait;
 
 /// What is asked in a turn. A name is given by its rank in the directory.
-#[derive(Clone, Copy, Debug)]
+#[derive(Clone, Copy)]
 pub(crate) struct Task {
     /// The number by which the put is known in the history.
     pub(crate) line: u32,

@@ -39,7 +39,7 @@ pub struct KeyNode {
 }
 
 /// Where the search for a key ends.
-#[derive(Clone, Copy, Debug, PartialEq, Eq)]
+#[derive(Clone, Copy, PartialEq, Eq)]
 pub(crate) enum End {
     /// At a null link: the key is strictly between the keys of the last turns.
     Missing(Gap),

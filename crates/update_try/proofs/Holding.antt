@@ -1,5 +1,7 @@
 -- The nodes that a try has locked on its way to a plan.
-use Rattle.std.proofs.Common.{◌≡◌, ℕ, ◌<◌, List, [], ◌∷◌, ◌++◌, arith, ◌∙◌, sym, subst, inl, inr, ap, Some}
+use Rattle.std.proofs.Common.{◌≡◌, ℕ, ◌<◌, List, [], ◌∷◌, ◌++◌, arith, ◌∙◌, sym, subst, inl, inr, ap, Some, Result, Err}
+use Rattle.std.proofs.lemmas.Result.{err_from_is_err_and}
+use Rattle.std.specs.Result.{IfErr, IsErrAnd}
 use Rattle.std.proofs.lemmas.Bool.Decides.{nat_tests}
 use Rattle.index_words.specs.declared.side.Side.{Side}
 use Rattle.index_words.specs.declared.side.Side.TheVariants.{Left, Right}
@@ -13,12 +15,17 @@ use Rattle.core_updates.specs.Held.{HoldsLink, RemembersGap}
 use Rattle.core_updates.specs.PlanEvents.{KnowsLink, KnowsTag}
 use Rattle.core_updates.specs.Plans.{link_of}
 use Rattle.plan_laws.specs.Looks.{IsUnmarked, RemembersLink, RemembersNull}
+use Rattle.plan_laws.specs.Frames.{KeepsTry}
 use Rattle.plan_laws.specs.Tries.{IsTrying}
+use Rattle.plan_laws.proofs.Frames.{keeps_try}
 use Rattle.plan_laws.proofs.Kept.{found-at}
 use Rattle.update_search.specs.declared.descent.KeyNode.{KeyNode}
+use Rattle.update_search.specs.declared.outcome.Failed.{Failed}
+use Rattle.update_search.specs.declared.outcome.Failed.TheVariants.{Busy, Moved}
 use Rattle.update_search.specs.Aims.{HasStepped}
 use Rattle.update_search.specs.Ends.{IsFoundAt}
 use Rattle.update_search.proofs.Nodes.{place_node}
+use Rattle.update_search.specs.Outcomes.{IsCounted}
 use Rattle.update_search.specs.Searching.{KeepsSearch}
 use Rattle.update_search.proofs.Keeps.{found_locked, none_locked}
 use Rattle.update_try.specs.Looking.{IsLockedBy, IsRightOf, KnowsKey}
@@ -41,6 +48,20 @@ locked_on {v} {w} {k} keeps by = gap_locked v w k keeps by
 
 pub trying_on : {v w : View} {m n : ℕ} {items : List ℕ} → KeepsSearch v w → m ≡ n → IsTrying v n items → IsTrying w m items
 trying_on {v} {w} {m} {n} {items} keeps same trying = subst (λ j. IsTrying w j items) (sym same) (keeps.places.trying n items trying)
+
+pub tried_on : {u v w : View} → KeepsTry u v → KeepsTry v w → KeepsTry u w
+tried_on {u} {v} {w} a b = keeps_try u v w a b
+
+-- What a failed step has counted is counted since the try began. The first argument is what the try gives then.
+pub counted_on : {T : Type 0} {u v : View} (r : Result T Failed) (w : View) (failed : Failed) → KeepsTry u v → IsCounted failed v w → IsErrAnd r (λ f. f ≡ failed)
+    → IfErr r (λ f. IsCounted f u w)
+counted_on {T} {u} {v} r w failed keeps is same =
+    let at = err_from_is_err_and r same in
+    subst (λ (x : Result T Failed). IfErr x (λ f. IsCounted f u w)) (sym (at.1 ∙ ap Err at.2)) (since failed is)
+  where
+    since : (f : Failed) → IsCounted f v w → IsCounted f u w
+    since Busy it = grind (arith, nat_tests, keeps.grown.busy, it)
+    since Moved it = grind (arith, nat_tests, keeps.grown.moves, it)
 
 -- a node that was locked last, and one that was locked before the last
 pub last_locked : {v : View} {n k : ℕ} {more : List ℕ} (items : List ℕ) → IsTrying v n more → more ≡ items ++ k ∷ [] → IsLockedBy v k

@@ -26,7 +26,7 @@ const PASSED: u32 = 64;
 const ENOUGH: usize = 16;
 
 /// The least number: nobody reads what is after the first entry of a bundle whose number is not above it.
-#[derive(Clone, Copy, Debug)]
+#[derive(Clone, Copy)]
 pub(crate) struct Least {
     pub number: u64,
     /// Whether the pass has looked at the announcements of the others for it.
@@ -34,7 +34,7 @@ pub(crate) struct Least {
 }
 
 /// An entry at which a walk has stopped, with its number and its next.
-#[derive(Clone, Copy, Debug)]
+#[derive(Clone, Copy)]
 pub(crate) struct Stop {
     pub entry: u32,
     pub number: u64,

@@ -5,7 +5,7 @@ use Rattle.core_events.specs.Searches.{search_nodes}
 use Rattle.plan_laws.specs.Tries.{IsTrying}
 use Rattle.update_search.proofs.Nodes.{link_node}
 use Rattle.update_try.proofs.Found.{root_link}
-use Rattle.update_try.proofs.Holding.{first_locked, locked_on, trying_on}
+use Rattle.update_try.proofs.Holding.{counted_on, first_locked, locked_on, tried_on, trying_on}
 use Rattle.update_try.proofs.NextLooks.{nothing_apart, nothing_kept, still_off, unlocked_nothing}
 use Rattle.update_try.proofs.planning.hold_far.Goals as goal
 
@@ -69,3 +69,18 @@ pub returns-clause-trying : goal.returns-clause-trying
 returns-clause-trying c =
     let one = trying_on c.look_unmarked.ensures.keeps c.look_unmarked.ensures.same.number c.lock-2.ensures.trying in
     trying_on c.look_leads.ensures.keeps c.look_leads.ensures.same.number one
+
+pub returns-in_err-lock-2-clause-counted : goal.returns-in_err-lock-2-clause-counted
+returns-in_err-lock-2-clause-counted c =
+    counted_on c.from_residual-in_err-lock-2.result c.lock-2.new.pass.view c.in_err-lock-2.field-0.0 c.lock.ensures.keeps c.in_err-lock-2.ensures.busy
+    c.from_residual-in_err-lock-2.ensures.1
+
+pub returns-in_err-look_unmarked-clause-counted : goal.returns-in_err-look_unmarked-clause-counted
+returns-in_err-look_unmarked-clause-counted c =
+    counted_on c.from_residual-in_err-look_unmarked.result c.look_unmarked.new.pass.view c.in_err-look_unmarked.field-0.0 (tried_on c.lock.ensures.keeps c.lock-2.ensures.keeps) c.in_err-look_unmarked.ensures.moved
+    c.from_residual-in_err-look_unmarked.ensures.1
+
+pub returns-in_err-look_leads-clause-counted : goal.returns-in_err-look_leads-clause-counted
+returns-in_err-look_leads-clause-counted c =
+    counted_on c.from_residual-in_err-look_leads.result c.look_leads.new.pass.view c.in_err-look_leads.field-0.0 (tried_on (tried_on c.lock.ensures.keeps c.lock-2.ensures.keeps) c.look_unmarked.ensures.keeps.places.keeps) c.in_err-look_leads.ensures.moved
+    c.from_residual-in_err-look_leads.ensures.1

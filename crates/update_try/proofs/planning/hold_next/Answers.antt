@@ -2,6 +2,7 @@ use Rattle.std.proofs.Common.{ℕ, ◌<◌, List, subst, sym}
 use Rattle.key_map.specs.Lists.{count}
 use Rattle.core_updates.specs.Plans.{LinkLook}
 use Rattle.update_try.proofs.NextLooks.{counts_last, counts_second, locked_in, next_kept, nothing_kept, unlocked_nothing}
+use Rattle.update_try.proofs.Holding.{counted_on}
 use Rattle.update_try.proofs.planning.hold_next.Goals as goal
 
 pub look_next-requires-clause-locked : goal.look_next-requires-clause-locked
@@ -31,3 +32,13 @@ look_next-requires-2-clause-locked c =
 pub returns-clause-next : goal.returns-clause-next
 returns-clause-next c = λ key found.
     c.in_ok-next-2.ensures.next key (next_kept c.args.pass.now.view c.hold_far.new.pass.view key c.args.found.now c.hold_far.ensures.reading c.hold_far.ensures.looks found)
+
+pub returns-in_err-next-clause-counted : goal.returns-in_err-next-clause-counted
+returns-in_err-next-clause-counted c =
+    counted_on c.from_residual-in_err-next.result c.look_next.new.pass.view c.in_err-next.field-0.0 c.lock.ensures.keeps c.in_err-next.ensures.counted
+    c.from_residual-in_err-next.ensures.1
+
+pub returns-in_err-next-2-clause-counted : goal.returns-in_err-next-2-clause-counted
+returns-in_err-next-2-clause-counted c =
+    counted_on c.from_residual-in_err-next-2.result c.look_next-2.new.pass.view c.in_err-next-2.field-0.0 c.hold_far.ensures.places c.in_err-next-2.ensures.counted
+    c.from_residual-in_err-next-2.ensures.1

@@ -7,7 +7,7 @@ use Rattle.core_trees.specs.declared.link.Link.{Link}
 use Rattle.core_updates.specs.Plans.{LinkLook}
 use Rattle.update_search.proofs.Nodes.{link_node}
 use Rattle.update_try.proofs.Found.{node_some, root_link}
-use Rattle.update_try.proofs.Holding.{first_locked, known_key, last_locked, locked_on, no_link, other_side, right_of, trying_on}
+use Rattle.update_try.proofs.Holding.{counted_on, first_locked, known_key, last_locked, locked_on, no_link, other_side, right_of, tried_on, trying_on}
 use Rattle.update_try.proofs.planning.hold_node.Goals as goal
 
 pub lock-requires-clause-searched : goal.lock-requires-clause-searched
@@ -100,3 +100,23 @@ returns-clause-node c = λ key finds.
       key_is = c.look_at_node.ensures.key key (known_key c.args.pass.now.view c.look_unmarked-2.new.pass.view key found same finds);
       left_link = c.look_at_node.ensures.left;
     }
+
+pub returns-in_err-lock-2-clause-counted : goal.returns-in_err-lock-2-clause-counted
+returns-in_err-lock-2-clause-counted c =
+    counted_on c.from_residual-in_err-lock-2.result c.lock-2.new.pass.view c.in_err-lock-2.field-0.0 c.lock.ensures.keeps c.in_err-lock-2.ensures.busy
+    c.from_residual-in_err-lock-2.ensures.1
+
+pub returns-in_err-look_unmarked-clause-counted : goal.returns-in_err-look_unmarked-clause-counted
+returns-in_err-look_unmarked-clause-counted c =
+    counted_on c.from_residual-in_err-look_unmarked.result c.look_unmarked.new.pass.view c.in_err-look_unmarked.field-0.0 (tried_on c.lock.ensures.keeps c.lock-2.ensures.keeps) c.in_err-look_unmarked.ensures.moved
+    c.from_residual-in_err-look_unmarked.ensures.1
+
+pub returns-in_err-look_leads-clause-counted : goal.returns-in_err-look_leads-clause-counted
+returns-in_err-look_leads-clause-counted c =
+    counted_on c.from_residual-in_err-look_leads.result c.look_leads.new.pass.view c.in_err-look_leads.field-0.0 (tried_on (tried_on c.lock.ensures.keeps c.lock-2.ensures.keeps) c.look_unmarked.ensures.keeps.places.keeps) c.in_err-look_leads.ensures.moved
+    c.from_residual-in_err-look_leads.ensures.1
+
+pub returns-in_err-look_unmarked-2-clause-counted : goal.returns-in_err-look_unmarked-2-clause-counted
+returns-in_err-look_unmarked-2-clause-counted c =
+    counted_on c.from_residual-in_err-look_unmarked-2.result c.look_unmarked-2.new.pass.view c.in_err-look_unmarked-2.field-0.0 (tried_on (tried_on (tried_on c.lock.ensures.keeps c.lock-2.ensures.keeps) c.look_unmarked.ensures.keeps.places.keeps) c.look_leads.ensures.keeps.places.keeps) c.in_err-look_unmarked-2.ensures.moved
+    c.from_residual-in_err-look_unmarked-2.ensures.1

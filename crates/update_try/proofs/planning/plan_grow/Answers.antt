@@ -1,7 +1,7 @@
 use Rattle.std.proofs.Common.{◌∙◌, sym, subst}
 use Rattle.plan_laws.specs.Tries.{IsTrying}
 use Rattle.update_try.proofs.Found.{root_link}
-use Rattle.update_try.proofs.Holding.{gap_link, gap_null, last_in, locked_in, no_link, no_tag}
+use Rattle.update_try.proofs.Holding.{counted_on, gap_link, gap_null, last_in, locked_in, no_link, no_tag, tried_on}
 use Rattle.update_try.proofs.LooksUnder.{gap_locked}
 use Rattle.update_try.proofs.planning.plan_grow.Goals as goal
 
@@ -48,3 +48,13 @@ returns-clause-trying c =
     subst (λ n. IsTrying c.look_at_gap.new.pass.view n c.lock.new.locks.items) (sym (c.look_at_gap.ensures.same.number ∙ c.look_unmarked.ensures.same.number))
     (c.look_at_gap.ensures.keeps.places.trying c.lock.new.pass.number c.lock.new.locks.items
     (c.look_unmarked.ensures.keeps.places.trying c.lock.new.pass.number c.lock.new.locks.items c.lock.ensures.trying))
+
+pub returns-in_err-look_unmarked-clause-counted : goal.returns-in_err-look_unmarked-clause-counted
+returns-in_err-look_unmarked-clause-counted c =
+    counted_on c.from_residual-in_err-look_unmarked.result c.look_unmarked.new.pass.view c.in_err-look_unmarked.field-0.0 c.lock.ensures.keeps c.in_err-look_unmarked.ensures.moved
+    c.from_residual-in_err-look_unmarked.ensures.1
+
+pub returns-in_err-look_at_gap-clause-counted : goal.returns-in_err-look_at_gap-clause-counted
+returns-in_err-look_at_gap-clause-counted c =
+    counted_on c.from_residual-in_err-look_at_gap.result c.look_at_gap.new.pass.view c.in_err-look_at_gap.field-0.0 (tried_on c.lock.ensures.keeps c.look_unmarked.ensures.keeps.places.keeps) c.in_err-look_at_gap.ensures.moved
+    c.from_residual-in_err-look_at_gap.ensures.1

@@ -7,6 +7,7 @@ use Rattle.plan_laws.specs.Looks.{HasLookedAll}
 use Rattle.plan_laws.specs.Tries.{IsTrying}
 use Rattle.update_try.specs.Planning.{next_locks}
 use Rattle.update_try.proofs.Removals.{held_unmarked, join_looked, lift_looked, near, far, next_found, node_found, node_kept, on_walk}
+use Rattle.update_try.proofs.Holding.{counted_on, tried_on}
 use Rattle.update_try.proofs.planning.plan_removal.Goals as goal
 
 pub hold_node-requires-clause-found : goal.hold_node-requires-clause-found
@@ -199,3 +200,18 @@ pub returns-then-right-eq0-clause-trying : goal.returns-then-right-eq0-clause-tr
 returns-then-right-eq0-clause-trying c =
     subst (λ n. IsTrying c.look_leads.new.pass.view n c.hold_node.new.locks.items) (sym c.look_leads.ensures.same.number)
     (c.look_leads.ensures.keeps.places.trying c.hold_node.new.pass.number c.hold_node.new.locks.items c.hold_node.ensures.trying)
+
+pub returns-in_err-look_leads-clause-counted : goal.returns-in_err-look_leads-clause-counted
+returns-in_err-look_leads-clause-counted c =
+    counted_on c.from_residual-in_err-look_leads.result c.look_leads.new.pass.view c.in_err-look_leads.field-0.0 c.hold_node.ensures.places c.in_err-look_leads.ensures.moved
+    c.from_residual-in_err-look_leads.ensures.1
+
+pub returns-in_err-next-clause-counted : goal.returns-in_err-next-clause-counted
+returns-in_err-next-clause-counted c =
+    counted_on c.from_residual-in_err-next.result c.find_next.new.pass.view c.in_err-next.field-0.0 (tried_on c.hold_node.ensures.places c.look_leads.ensures.keeps.places.keeps) c.in_err-next.ensures.counted
+    c.from_residual-in_err-next.ensures.1
+
+pub returns-in_err-next-2-clause-counted : goal.returns-in_err-next-2-clause-counted
+returns-in_err-next-2-clause-counted c =
+    counted_on c.from_residual-in_err-next-2.result c.hold_next.new.pass.view c.in_err-next-2.field-0.0 (tried_on (tried_on c.hold_node.ensures.places c.look_leads.ensures.keeps.places.keeps) c.in_ok-next.ensures.keeps.places.keeps) c.in_err-next-2.ensures.counted
+    c.from_residual-in_err-next-2.ensures.1
